@@ -1,0 +1,54 @@
+-- The candidates of one result size, "met smaller size first, then driving row, then inner row", and which are joinable.
+use mathlib.Core.Bool.{Bool, cond, _&&_}
+use mathlib.Core.List.{List, [], _∷_, _++_}
+use Prim.Native.Nat.{ℕ, zero, suc, _+_, _-_, _/_}
+use lib.Bits.{bitAnd}
+use lib.Dec.{eqb}
+use lib.ListN.{length}
+use Rattle.rules.specs.Lists.{isYes, inRow}
+use Rattle.rules.specs.Query.{Query}
+use Rattle.rules.specs.Rows.{rowsOf}
+use Rattle.rules.specs.laws.Decide.{between?}
+
+-- a driving row and an inner row that are met
+pub record Candidate : Type 0 where
+  -- "all D rows of each driving size"
+  pub rows : ℕ
+  -- "Driving row i, counted from 0 within its size"
+  pub row : ℕ
+  -- "its inner candidates counted from 0"
+  pub count : ℕ
+  -- the sets of the two rows
+  pub driving : ℕ
+  pub inner : ℕ
+
+-- driving row i of D, set X, with each inner set of the list, the first of them counted j
+unfoldable pub withRow : ℕ → ℕ → ℕ → ℕ → List ℕ → List Candidate
+withRow D i X j [] = []
+withRow D i X j (Y ∷ ys) = record { rows = D; row = i; count = j; driving = X; inner = Y } ∷ withRow D i X (suc j) ys
+
+-- driving rows from i on, each with all inner rows of another size
+unfoldable pub across : ℕ → ℕ → List ℕ → List ℕ → List Candidate
+across D i [] ys = []
+across D i (X ∷ xs) ys = withRow D i X 0 ys ++ across D (suc i) xs ys
+
+-- "Where the two are equal the inner row comes after the driving row"
+unfoldable pub within : ℕ → ℕ → List ℕ → List Candidate
+within D i [] = []
+within D i (X ∷ xs) = withRow D i X 0 xs ++ within D (suc i) xs
+
+-- the candidates of result size s with driving size d: "the inner size is S less that"
+unfoldable pub driven : (ℕ → List ℕ) → ℕ → ℕ → List Candidate
+driven rows s d = cond (eqb (d + d) s) (within (length (rows d)) 0 (rows d)) (across (length (rows d)) 0 (rows d) (rows (s - d)))
+
+-- "the driving size runs from 1 to S/2 rounded down"
+unfoldable pub candidatesOf : (ℕ → List ℕ) → ℕ → List Candidate
+candidatesOf rows s = inRow (driven rows s) 1 (s / 2)
+
+-- all candidates of result size s, over the memo's rows
+unfoldable pub candidates : Query → ℕ → List Candidate
+candidates q s = candidatesOf (rowsOf q) s
+
+-- "A candidate is joinable if the sets are disjoint and an edge runs between them."
+unfoldable pub joinable : Query → Candidate → Bool
+joinable q c = eqb (bitAnd (c .driving) (c .inner)) 0 && isYes (between? q (c .driving) (c .inner))

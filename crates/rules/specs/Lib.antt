@@ -1,0 +1,21 @@
+-- Document 01 in mathematics, one module for each idea, in the order of its sections; `laws` proves what follows.
+pub mod Limits
+pub mod Kinds
+pub mod Lists
+pub mod Sets
+pub mod Query
+pub mod Connected
+pub mod Estimate
+pub mod Trees
+pub mod Rows
+pub mod Skips
+pub mod Candidates
+pub mod Shares
+pub mod Turns
+pub mod Log
+pub mod Refusals
+pub mod Checked
+pub mod Answers
+pub mod laws
+pub mod Cases
+pub mod Wrong

@@ -1,0 +1,39 @@
+-- The rows of the memo: "One memo row for each nonempty connected set, ordered by size and then by the ascending sequence of table numbers, compared as numbers".
+use mathlib.Core.Path.{_≡_}
+use mathlib.Core.Logic.{_⊎_}
+use mathlib.Core.List.{List, [], _∷_, _++_, map, List·Memᴰ}
+use Prim.Native.Nat.{ℕ, zero, suc, _<_}
+use Rattle.rules.specs.Lists.{keep, isYes, inRow}
+use Rattle.rules.specs.Sets.{number}
+use Rattle.rules.specs.Query.{Query, tableCount}
+use Rattle.rules.specs.laws.Decide.{connected?}
+
+-- sequences "compared as numbers", place by place
+unfoldable pub Before : List ℕ → List ℕ → Type 0
+Before [] [] = ⊥
+Before [] (y ∷ ys) = Unit {0}
+Before (x ∷ xs) [] = ⊥
+Before (x ∷ xs) (y ∷ ys) = (x < y) ⊎ ((x ≡ y) × Before xs ys)
+
+-- each stands before all that come after it
+unfoldable pub Ordered : List (List ℕ) → Type 0
+Ordered [] = Unit {0}
+Ordered (s ∷ ss) = ((s′ : List ℕ) → List·Memᴰ s′ ss → Before s s′) × Ordered ss
+
+-- the ascending sequences of k of the n tables t, t + 1, ..: those with t, then those without
+unfoldable pub combos : ℕ → ℕ → ℕ → List (List ℕ)
+combos zero t n = [] ∷ []
+combos (suc k) t zero = []
+combos (suc k) t (suc n) = map (λ (s : List ℕ). t ∷ s) (combos k (suc t) n) ++ combos (suc k) (suc t) n
+
+-- the sequences of the connected sets of k tables
+unfoldable pub sequences : Query → ℕ → List (List ℕ)
+sequences q k = keep (λ (s : List ℕ). isYes (connected? q (number s))) (combos k 1 (tableCount q))
+
+-- the sets of the memo's rows of size k
+unfoldable pub rowsOf : Query → ℕ → List ℕ
+rowsOf q k = map number (sequences q k)
+
+-- all rows of the memo, by size
+unfoldable pub memo : Query → List ℕ
+memo q = inRow (rowsOf q) 1 (tableCount q)

@@ -1,0 +1,47 @@
+-- "Shares among m workers, over candidates before any test".
+use mathlib.Core.Bool.{Bool, _&&_}
+use mathlib.Core.List.{List, [], _∷_}
+use Prim.Native.Nat.{ℕ, zero, suc, _+_, _*_, _/_, _%_}
+use lib.Dec.{eqb, leb, ltb}
+use lib.ListN.{length}
+use Rattle.rules.specs.declared.Scheme.{Scheme}
+use Rattle.rules.specs.declared.Scheme.the-variants.{CutCandidates, CutRows, DealRows, DealInner}
+use Rattle.rules.specs.Lists.{keep}
+use Rattle.rules.specs.Query.{Query}
+use Rattle.rules.specs.Candidates.{Candidate, candidates, joinable}
+
+-- a candidate with its number: "All T candidates of size S numbered from 0"
+pub record Numbered : Type 0 where
+  pub number : ℕ
+  pub candidate : Candidate
+
+unfoldable pub numbered : ℕ → List Candidate → List Numbered
+numbered n [] = []
+numbered n (c ∷ cs) = record { number = n; candidate = c } ∷ numbered (suc n) cs
+
+-- "wT/m .. rounded down"
+unfoldable pub cut : ℕ → ℕ → ℕ → ℕ
+cut T m w = w * T / m
+
+-- "worker w has those from wT/m up to, not including, (w+1)T/m"
+unfoldable pub inCut : ℕ → ℕ → ℕ → ℕ → Bool
+inCut T m w i = leb (cut T m w) i && ltb i (cut T m (w + 1))
+
+-- worker w of m has the candidate, of T in all
+unfoldable pub owns : Scheme → ℕ → ℕ → ℕ → Numbered → Bool
+owns CutCandidates T m w x = inCut T m w (x .number)
+owns CutRows T m w x = inCut (x .candidate .rows) m w (x .candidate .row)
+owns DealRows T m w x = eqb (x .candidate .row % m) w
+owns DealInner T m w x = eqb (x .candidate .count % m) w
+
+-- the candidates of result size s, numbered
+unfoldable pub met : Query → ℕ → List Numbered
+met q s = numbered 0 (candidates q s)
+
+-- worker w's share of result size s, "before any test"
+unfoldable pub share : Query → Scheme → ℕ → ℕ → ℕ → List Numbered
+share q scheme m s w = keep (owns scheme (length (met q s)) m w) (met q s)
+
+-- the joinable pairs of worker w's share, in the order in which it is to have them
+unfoldable pub queue : Query → Scheme → ℕ → ℕ → ℕ → List Numbered
+queue q scheme m s w = keep (λ (x : Numbered). joinable q (x .candidate)) (share q scheme m s w)

@@ -1,0 +1,24 @@
+-- What follows from the definitions. A reader need believe nothing here: it is proved.
+pub mod Kinds
+pub mod Bools
+pub mod Lists
+pub mod Sets
+pub mod Tables
+pub mod Connected
+pub mod Decide
+pub mod Rows
+pub mod Choice
+pub mod Bellman
+pub mod Handed
+pub mod Memo
+pub mod Reference
+pub mod Estimate
+pub mod Shares
+pub mod Candidates
+pub mod Skips
+pub mod Turns
+pub mod Hands
+pub mod Complete
+pub mod Refusals
+pub mod Outcome
+pub mod Answers

@@ -1,0 +1,161 @@
+-- The candidates of a size: every two rows whose sizes make it are met, one way round, and nothing else is.
+use mathlib.Core.Path.{_≡_, refl, sym, ap, _∙_}
+use mathlib.Core.Logic.{_⊎_, inl, inr, ⊎-elim}
+use mathlib.Core.Bool.{Bool, true, false, cond}
+use mathlib.Core.List.{List, [], _∷_, _++_, List·Memᴰ, List·Memᴰ·head, List·Memᴰ·tail, List·Memᴰ·cases-cons, List·Memᴰ·append-cases, Memᴰ·append-left, Memᴰ·append-right, List·Memᴰ·not-nil}
+use Prim.Native.Nat.{ℕ, zero, suc, _+_, _-_, _/_, _≤_, _<_}
+use native.Mathlib.Decide.{decLt}
+use native.Mathlib.Omega.{arith}
+use lib.Dec.{eqb}
+use lib.ListN.{length}
+use borrow.Author.Tests.{eqb-true, eq-eqb, ne-eqb}
+use Rattle.rules.specs.Lists.{inRow}
+use Rattle.rules.specs.Candidates.{Candidate, withRow, across, within, driven, candidatesOf}
+use Rattle.rules.specs.Shares.{Numbered, numbered}
+use Rattle.rules.specs.laws.Bools.{true-or-false}
+use Rattle.rules.specs.laws.Lists.{in-row, of-row, Once}
+
+-- ---- complete: each two rows of sizes that make s are met, one way round
+-- X and Y are met, X as the driving set
+pub record Has (X Y : ℕ) (l : List Candidate) : Type 0 where
+  pub one : Candidate
+  pub met : List·Memᴰ one l
+  pub driving : one .driving ≡ X
+  pub inner : one .inner ≡ Y
+
+has-left : {X Y : ℕ} (l r : List Candidate) → Has X Y l → Has X Y (l ++ r)
+has-left l r h = record { one = h .one; met = Memᴰ·append-left r (h .met); driving = h .driving; inner = h .inner }
+
+has-right : {X Y : ℕ} (l r : List Candidate) → Has X Y r → Has X Y (l ++ r)
+has-right l r h = record { one = h .one; met = Memᴰ·append-right l (h .met); driving = h .driving; inner = h .inner }
+
+with-row : (D i X j : ℕ) (ys : List ℕ) (Y : ℕ) → List·Memᴰ Y ys → Has X Y (withRow D i X j ys)
+unfolding withRow
+with-row D i X j (y ∷ ys) Y (List·Memᴰ·head e) = record { one = record { rows = D; row = i; count = j; driving = X; inner = y }; met = List·Memᴰ·head refl; driving = refl; inner = sym e }
+with-row D i X j (y ∷ ys) Y (List·Memᴰ·tail m) = let r = with-row D i X (suc j) ys Y m in record { one = r .one; met = List·Memᴰ·tail (r .met); driving = r .driving; inner = r .inner }
+
+across-has : (D i : ℕ) (xs ys : List ℕ) (X Y : ℕ) → List·Memᴰ X xs → List·Memᴰ Y ys → Has X Y (across D i xs ys)
+unfolding across
+across-has D i (x ∷ xs) ys X Y (List·Memᴰ·head e) n = rw e (has-left (withRow D i x 0 ys) (across D (suc i) xs ys) (with-row D i x 0 ys Y n))
+across-has D i (x ∷ xs) ys X Y (List·Memᴰ·tail m) n = has-right (withRow D i x 0 ys) (across D (suc i) xs ys) (across-has D (suc i) xs ys X Y m n)
+
+within-has : (D i : ℕ) (xs : List ℕ) (X Y : ℕ) → List·Memᴰ X xs → List·Memᴰ Y xs → (X ≡ Y → ⊥) → Has X Y (within D i xs) ⊎ Has Y X (within D i xs)
+unfolding within
+within-has D i (x ∷ xs) X Y (List·Memᴰ·head e) (List·Memᴰ·head f) n = absurd (n (e ∙ sym f))
+within-has D i (x ∷ xs) X Y (List·Memᴰ·head e) (List·Memᴰ·tail k) n = inl (rw e (has-left (withRow D i x 0 xs) (within D (suc i) xs) (with-row D i x 0 xs Y k)))
+within-has D i (x ∷ xs) X Y (List·Memᴰ·tail m) (List·Memᴰ·head f) n = inr (rw f (has-left (withRow D i x 0 xs) (within D (suc i) xs) (with-row D i x 0 xs X m)))
+within-has D i (x ∷ xs) X Y (List·Memᴰ·tail m) (List·Memᴰ·tail k) n =
+    ⊎-elim (λ h. inl (has-right (withRow D i x 0 xs) (within D (suc i) xs) h)) (λ h. inr (has-right (withRow D i x 0 xs) (within D (suc i) xs) h)) (within-has D (suc i) xs X Y m k n)
+
+module _ (rows : ℕ → List ℕ) (s : ℕ) where
+  from-has : {X Y : ℕ} (d : ℕ) → 0 < d → d ≤ s / 2 → Has X Y (driven rows s d) → Has X Y (candidatesOf rows s)
+  unfolding candidatesOf
+  from-has d l u h = record { one = h .one; met = in-row (driven rows s) (h .one) 1 (s / 2) d l (omega arith) (h .met); driving = h .driving; inner = h .inner }
+
+  -- two different rows, of sizes d and e that make s
+  pub candidates-all : (d e X Y : ℕ) → 0 < d → 0 < e → d + e ≡ s → List·Memᴰ X (rows d) → List·Memᴰ Y (rows e) → (X ≡ Y → ⊥)
+      → Has X Y (candidatesOf rows s) ⊎ Has Y X (candidatesOf rows s)
+  unfolding driven
+  candidates-all d e X Y pd pe w mx my n = go (decLt d e) (decLt e d)
+    where
+      go : Dec (d < e) → Dec (e < d) → Has X Y (candidatesOf rows s) ⊎ Has Y X (candidatesOf rows s)
+      go (yes l) k =
+          let f : s - d ≡ e = omega arith in
+          inl (from-has d pd (omega arith) (rw (ne-eqb (d + d) s (λ z. omega arith), f) (across-has (length (rows d)) 0 (rows d) (rows e) X Y mx my)))
+      go (no g) (yes l) =
+          let f : s - e ≡ d = omega arith in
+          inr (from-has e pe (omega arith) (rw (ne-eqb (e + e) s (λ z. omega arith), f) (across-has (length (rows e)) 0 (rows e) (rows d) Y X my mx)))
+      go (no g) (no h) =
+          let f : e ≡ d = omega arith in
+          let z : d + d ≡ s = omega arith in
+          ⊎-elim (λ a. inl (from-has d pd (omega arith) (rw (eq-eqb (d + d) s z) a))) (λ a. inr (from-has d pd (omega arith) (rw (eq-eqb (d + d) s z) a)))
+          (within-has (length (rows d)) 0 (rows d) X Y mx (rw f at my) n)
+
+-- ---- what stands behind a candidate: two rows, of lists xs and ys
+pub record Behind (xs ys : List ℕ) (c : Candidate) : Type 0 where
+  pub driving : List·Memᴰ (c .driving) xs
+  pub inner : List·Memᴰ (c .inner) ys
+  pub row : c .row < c .rows
+
+pub record Row-of (D i X : ℕ) (ys : List ℕ) (c : Candidate) : Type 0 where
+  pub driving : c .driving ≡ X
+  pub inner : List·Memᴰ (c .inner) ys
+  pub row : c .row ≡ i
+  pub rows : c .rows ≡ D
+
+row-of : (D i X j : ℕ) (ys : List ℕ) (c : Candidate) → List·Memᴰ c (withRow D i X j ys) → Row-of D i X ys c
+unfolding withRow
+row-of D i X j [] c m = absurd (List·Memᴰ·not-nil m)
+row-of D i X j (y ∷ ys) c m = go (row-of D i X (suc j) ys c) (List·Memᴰ·cases-cons m)
+  where
+    go : (List·Memᴰ c (withRow D i X (suc j) ys) → Row-of D i X ys c) → (c ≡ record { rows = D; row = i; count = j; driving = X; inner = y }) ⊎ List·Memᴰ c (withRow D i X (suc j) ys) → Row-of D i X (y ∷ ys) c
+    go ih (inl e) = record { driving = ap (λ (k : Candidate). k .driving) e; inner = List·Memᴰ·head (ap (λ (k : Candidate). k .inner) e); row = ap (λ (k : Candidate). k .row) e; rows = ap (λ (k : Candidate). k .rows) e }
+    go ih (inr n) = let r = ih n in record { driving = r .driving; inner = List·Memᴰ·tail (r .inner); row = r .row; rows = r .rows }
+
+across-of : (D i : ℕ) (xs ys : List ℕ) (c : Candidate) → i + length xs ≡ D → List·Memᴰ c (across D i xs ys) → Behind xs ys c
+unfolding across
+across-of D i [] ys c e m = absurd (List·Memᴰ·not-nil m)
+across-of D i (x ∷ xs) ys c e m = go (across-of D (suc i) xs ys c (omega arith)) (List·Memᴰ·append-cases (withRow D i x 0 ys) m)
+  where
+    go : (List·Memᴰ c (across D (suc i) xs ys) → Behind xs ys c) → List·Memᴰ c (withRow D i x 0 ys) ⊎ List·Memᴰ c (across D (suc i) xs ys) → Behind (x ∷ xs) ys c
+    go ih (inl n) = let r = row-of D i x 0 ys c n in record { driving = List·Memᴰ·head (r .driving); inner = r .inner; row = omega (arith, r .row, r .rows) }
+    go ih (inr n) = let r = ih n in record { driving = List·Memᴰ·tail (r .driving); inner = r .inner; row = r .row }
+
+within-of : (D i : ℕ) (xs : List ℕ) (c : Candidate) → i + length xs ≡ D → List·Memᴰ c (within D i xs) → Behind xs xs c
+unfolding within
+within-of D i [] c e m = absurd (List·Memᴰ·not-nil m)
+within-of D i (x ∷ xs) c e m = go (within-of D (suc i) xs c (omega arith)) (List·Memᴰ·append-cases (withRow D i x 0 xs) m)
+  where
+    go : (List·Memᴰ c (within D (suc i) xs) → Behind xs xs c) → List·Memᴰ c (withRow D i x 0 xs) ⊎ List·Memᴰ c (within D (suc i) xs) → Behind (x ∷ xs) (x ∷ xs) c
+    go ih (inl n) = let r = row-of D i x 0 xs c n in record { driving = List·Memᴰ·head (r .driving); inner = List·Memᴰ·tail (r .inner); row = omega (arith, r .row, r .rows) }
+    go ih (inr n) = let r = ih n in record { driving = List·Memᴰ·tail (r .driving); inner = List·Memᴰ·tail (r .inner); row = r .row }
+
+module _ (rows : ℕ → List ℕ) (s : ℕ) where
+  -- a candidate's driving row is one of size d, its inner row one of size s - d
+  pub record Met (c : Candidate) : Type 0 where
+    pub size : ℕ
+    pub from-one : 1 ≤ size
+    pub to-half : size ≤ s / 2
+    pub behind : Behind (rows size) (rows (s - size)) c
+
+  driven-of : (d : ℕ) (c : Candidate) → 1 ≤ d → d ≤ s / 2 → List·Memᴰ c (driven rows s d) → Met c
+  unfolding driven
+  driven-of d c l u m = record { size = d; from-one = l; to-half = u; behind = go (true-or-false (eqb (d + d) s)) m }
+    where
+      go : (eqb (d + d) s ≡ true) ⊎ (eqb (d + d) s ≡ false) → List·Memᴰ c (cond (eqb (d + d) s) (within (length (rows d)) 0 (rows d)) (across (length (rows d)) 0 (rows d) (rows (s - d))))
+          → Behind (rows d) (rows (s - d)) c
+      go (inl e) n =
+          let f : s - d ≡ d = omega (arith, eqb-true (d + d) s e) in
+          rw f (within-of (length (rows d)) 0 (rows d) c (omega arith) (rw e at n))
+      go (inr e) n = across-of (length (rows d)) 0 (rows d) (rows (s - d)) c (omega arith) (rw e at n)
+
+  pub met-of : (c : Candidate) → List·Memᴰ c (candidatesOf rows s) → Met c
+  unfolding candidatesOf
+  met-of c m = let r = of-row (driven rows s) c 1 (s / 2) m in driven-of (r .0) c (r .1) (omega (arith, r .2)) (r .3)
+
+-- ---- candidates with their numbers
+pub numbered-in : (n : ℕ) (cs : List Candidate) (c : Candidate) → List·Memᴰ c cs → (x : Numbered) × List·Memᴰ x (numbered n cs) × (x .candidate ≡ c)
+unfolding numbered
+numbered-in n (x ∷ cs) c (List·Memᴰ·head e) = (record { number = n; candidate = x }, List·Memᴰ·head refl, sym e)
+numbered-in n (x ∷ cs) c (List·Memᴰ·tail m) = let r = numbered-in (suc n) cs c m in (r .0, List·Memᴰ·tail (r .1), r .2)
+
+pub numbered-of : (n : ℕ) (cs : List Candidate) (x : Numbered) → List·Memᴰ x (numbered n cs) → List·Memᴰ (x .candidate) cs × (n ≤ x .number) × (x .number < n + length cs)
+unfolding numbered
+numbered-of n [] x m = absurd (List·Memᴰ·not-nil m)
+numbered-of n (c ∷ cs) x m = go (numbered-of (suc n) cs x) (List·Memᴰ·cases-cons m)
+  where
+    go : (List·Memᴰ x (numbered (suc n) cs) → List·Memᴰ (x .candidate) cs × (suc n ≤ x .number) × (x .number < suc n + length cs))
+        → (x ≡ record { number = n; candidate = c }) ⊎ List·Memᴰ x (numbered (suc n) cs) → List·Memᴰ (x .candidate) (c ∷ cs) × (n ≤ x .number) × (x .number < n + suc (length cs))
+    go ih (inl e) = (List·Memᴰ·head (ap (λ (k : Numbered). k .candidate) e), omega (arith, ap (λ (k : Numbered). k .number) e), omega (arith, ap (λ (k : Numbered). k .number) e))
+    go ih (inr i) = let r = ih i in (List·Memᴰ·tail (r .0), omega (arith, r .1), omega (arith, r .2))
+
+pub numbered-length : (n : ℕ) (cs : List Candidate) → length (numbered n cs) ≡ length cs
+unfolding numbered
+numbered-length n [] = refl
+numbered-length n (c ∷ cs) = ap suc (numbered-length (suc n) cs)
+
+-- each number stands once
+pub numbered-once : (n : ℕ) (cs : List Candidate) → Once (numbered n cs)
+unfolding numbered Once
+numbered-once n [] = tt
+numbered-once n (c ∷ cs) = (λ m. omega (arith, numbered-of (suc n) cs (record { number = n; candidate = c }) m .1), numbered-once (suc n) cs)

@@ -1,0 +1,86 @@
+-- The estimate lies between 1 and its cap, and every cost of a valid tree is below 10^17.
+use mathlib.Core.Path.{_≡_, refl, sym, ap, _∙_}
+use mathlib.Core.Logic.{_⊎_, inl, inr}
+use mathlib.Core.Bool.{Bool, true, false, cond}
+use Prim.Native.Nat.{ℕ, zero, suc, _+_, _-_, _*_, _/_, _≤_, _<_, min, max}
+use native.Mathlib.Nat.{le-refl, mul-le-mul}
+use native.Mathlib.Omega.{arith}
+use lib.Dec.{eqb}
+use lib.ListN.{getD}
+use Rattle.rules.specs.Limits.{maxTables, maxScan, maxFixed, maxCoefficient, maxEstimate, costBound}
+use Rattle.rules.specs.Sets.{holds, size}
+use Rattle.rules.specs.Query.{Query, tableCount, edgeCount, at}
+use Rattle.rules.specs.Estimate.{joinsAt, divided, byEdges, byLower, withTable, running, estimate}
+use Rattle.rules.specs.Trees.{Tree, scan, join, tablesOf, Valid, price, costOf}
+use Rattle.rules.specs.laws.Bools.{true-or-false}
+use Rattle.rules.specs.laws.Sets.{size-pow, size-sum}
+
+-- what holds of both holds of the one that a test picks
+either : (P : ℕ → Type 0) (b : Bool) {x y : ℕ} → P x → P y → P (cond b x y)
+either P true p q = p
+either P false p q = q
+
+edges-pos : (q : Query) (u t n r : ℕ) → 1 ≤ r → 1 ≤ byEdges q u t n r
+unfolding byEdges divided
+edges-pos q u t zero r h = h
+edges-pos q u t (suc n) r h = either (λ x. 1 ≤ x) (joinsAt q u t n) (omega arith) (edges-pos q u t n r h)
+
+lower-pos : (q : Query) (S t k r : ℕ) → 1 ≤ r → 1 ≤ byLower q S t k r
+unfolding byLower
+lower-pos q S t zero r h = h
+lower-pos q S t (suc k) r h = either (λ x. 1 ≤ x) (eqb (holds S (suc k)) 1) (edges-pos q (suc k) t (edgeCount q) (byLower q S t k r) (lower-pos q S t k r h)) (lower-pos q S t k r h)
+
+table-pos : (q : Query) (S t r : ℕ) → 1 ≤ r → 1 ≤ withTable q S t r
+unfolding withTable
+table-pos q S t r h =
+    let z : 1 ≤ max 1 (at (q .rows) t) = omega arith in
+    omega (arith, lower-pos q S t (t - 1) (r * max 1 (at (q .rows) t)) (mul-le-mul h z))
+
+running-pos : (q : Query) (S k : ℕ) → 1 ≤ running q S k
+unfolding running
+running-pos q S zero = le-refl 1
+running-pos q S (suc k) = either (λ x. 1 ≤ x) (eqb (holds S (suc k)) 1) (table-pos q S (suc k) (running q S k) (running-pos q S k)) (running-pos q S k)
+
+running-le : (q : Query) (S k : ℕ) → running q S k ≤ maxEstimate
+unfolding running withTable
+running-le q S zero = omega arith
+running-le q S (suc k) = either (λ x. x ≤ maxEstimate) (eqb (holds S (suc k)) 1) (omega arith) (running-le q S k)
+
+-- an estimate is at least 1
+pub estimate-pos : (q : Query) (S : ℕ) → 1 ≤ estimate q S
+unfolding estimate
+estimate-pos q S = running-pos q S (tableCount q)
+
+-- and at most the cap
+pub estimate-le : (q : Query) (S : ℕ) → estimate q S ≤ maxEstimate
+unfolding estimate
+estimate-le q S = running-le q S (tableCount q)
+
+-- scan costs, fixed costs and coefficients are within 01's limits; past the end a list reads 0
+pub record Limited (q : Query) : Type 0 where
+  pub scans : (i : ℕ) → getD (q .scans) i 0 ≤ maxScan
+  pub fixed : (i : ℕ) → getD (q .fixed) i 0 ≤ maxFixed
+  pub outer : (i : ℕ) → getD (q .perOuter) i 0 ≤ maxCoefficient
+  pub inner : (i : ℕ) → getD (q .perInner) i 0 ≤ maxCoefficient
+  pub result : (i : ℕ) → getD (q .perResult) i 0 ≤ maxCoefficient
+
+-- the most that a join adds to the costs of its parts
+abbrev pub maxPrice : ℕ
+maxPrice = maxFixed + 3 * (maxCoefficient * maxEstimate)
+
+module _ (q : Query) (lim : Limited q) where
+  pub price-le : (X Y m : ℕ) → price q X Y m ≤ maxPrice
+  unfolding price
+  price-le X Y m =
+      omega
+      (arith, lim .fixed (m - 1), mul-le-mul (lim .outer (m - 1)) (estimate-le q X), mul-le-mul (lim .inner (m - 1)) (estimate-le q Y), mul-le-mul (lim .result (m - 1)) (estimate-le q (X + Y)))
+
+  -- a tree of n tables has n scans and n - 1 joins
+  pub cost-le : (t : Tree) → Valid q t → costOf q t + maxPrice ≤ size (tablesOf t) * (maxScan + maxPrice)
+  unfolding costOf tablesOf Valid
+  cost-le (scan t) v = omega (arith, lim .scans (t - 1), size-pow (t - 1))
+  cost-le (join x y m) v = omega (arith, cost-le x (v .0), cost-le y (v .1), price-le (tablesOf x) (tablesOf y) m, size-sum (tablesOf x) (tablesOf y) (v .2 .apart))
+
+  -- EVERY COST IS BELOW 10^17, for sets of up to as many tables as a query may have
+  pub cost-lt : (t : Tree) → Valid q t → size (tablesOf t) ≤ maxTables → costOf q t < costBound
+  cost-lt t v l = omega (arith, cost-le t v)

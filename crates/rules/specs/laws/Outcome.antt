@@ -1,0 +1,251 @@
+-- An outcome that computes, proved to be one that `Planned` allows: so for every input there is one, and the cases are computed by it.
+use mathlib.Core.Path.{_≡_, refl, sym, ap, _∙_, subst}
+use mathlib.Core.Logic.{_⊎_, inl, inr}
+use mathlib.Core.Bool.{Bool, true, false, cond}
+use mathlib.Core.List.{List, [], _∷_, _++_, map, List·Memᴰ, List·Memᴰ·head, List·Memᴰ·tail, List·Memᴰ·not-nil}
+use Prim.Native.Nat.{ℕ, zero, suc, _+_, _-_, _≤_, _<_, min}
+use native.Mathlib.Nat.{zero-add}
+use native.Mathlib.Omega.{arith}
+use lib.Count.{ones, onesIn}
+use lib.Dec.{eqb, leb}
+use lib.ListN.{length, getD, take, drop, length-take}
+use borrow.Author.Tests.{eq-eqb, ne-eqb, le-leb}
+use Rattle.rules.specs.declared.Scheme.{Scheme}
+use Rattle.rules.specs.declared.NewScheme.{NewScheme}
+use Rattle.rules.specs.declared.NewScheme.the-variants.{Good, Unknown}
+use Rattle.rules.specs.Kinds.{schemeOf}
+use Rattle.rules.specs.Lists.{over, keep, inRow}
+use Rattle.rules.specs.Sets.{size, full, holds, number, tablesFrom, tables}
+use Rattle.rules.specs.Query.{Query, IsMethod, tableCount}
+use Rattle.rules.specs.Connected.{Connected}
+use Rattle.rules.specs.Estimate.{joinsAt, divided, byEdges, byLower, withTable, running, estimate}
+use Rattle.rules.specs.Trees.{Least, price}
+use Rattle.rules.specs.Rows.{combos, sequences, rowsOf, memo}
+use Rattle.rules.specs.Skips.{skipFrom, vectorsFrom, vectors, skips}
+use Rattle.rules.specs.Candidates.{withRow, across, within, driven, candidatesOf, candidates, joinable}
+use Rattle.rules.specs.Shares.{Numbered, numbered, cut, inCut, owns, met, share, queue}
+use Rattle.rules.specs.Turns.{Hand, Sizes, only}
+use Rattle.rules.specs.Log.{Pair, pairOf, union, Stands}
+use Rattle.rules.specs.Refusals.{Memory, Input, Verdict, refuse, firstBad, firstOf, allLong, allSame, groups, badTable, badMethod, joinedBelow, repeats, edgeOr, badEdge, isRefused, badTurn, checks, rooms, verdict}
+use Rattle.rules.specs.Checked.{Accepted}
+use Rattle.rules.specs.Answers.{Answer, Outcome, each, perWorker, refusal, Refused, Spared, Row, Filled, InTurn, shown, upTo, Logged, Counted, Given, Planned}
+use Rattle.rules.specs.laws.Bools.{find}
+use Rattle.rules.specs.laws.Decide.{has, between?, connected?}
+use Rattle.rules.specs.laws.Lists.{at-in, at-map, length-map, over-length, over-spare, over-at}
+use Rattle.rules.specs.laws.Rows.{memo-only, size-count}
+use Rattle.rules.specs.laws.Choice.{Choice}
+use Rattle.rules.specs.laws.Handed.{JoinablePair, row-stands}
+use Rattle.rules.specs.laws.Reference.{sooner, better, bestOf, byMethod, splitsAt, offersBelow, offersOf, rowOf, scanRow, row-least, row-pick, pickOf, offersFor, handed-best}
+use Rattle.rules.specs.laws.Turns.{Entries, sizes-exist}
+use Rattle.rules.specs.laws.Complete.{plan-joinable}
+use Rattle.rules.specs.laws.Refusals.{accepted}
+
+-- ---- what computes
+-- the row of S
+unfoldable pub rowAt : Query → ℕ → Choice
+rowAt q S = rowOf q (suc (tableCount q)) S
+
+-- the least cost of S
+unfoldable pub bestAt : Query → ℕ → ℕ
+unfolding rowAt
+bestAt q S = rowAt q S .cost
+
+-- what the turns hand
+unfoldable pub handsOf : Query → Scheme → ℕ → List ℕ → List (Hand Numbered)
+handsOf q scheme m turns = sizes-exist m (queue q scheme m) 2 (tableCount q - 1) turns .0
+
+-- the set of the pair of turn j
+abbrev pub resultAt : List (Hand Numbered) → ℕ → ℕ
+resultAt h j = getD (map (λ (x : Hand Numbered). union (pairOf x)) h) j 0
+
+-- the cost in its row after turn j
+unfoldable pub standing : Query → List (Hand Numbered) → ℕ → ℕ
+standing q h j = pickOf (offersFor q (bestAt q) (upTo h j) (resultAt h j)) .cost
+
+unfoldable pub planOf : Input → Scheme → Outcome
+planOf i scheme =
+    let q = i .query in
+    let lent = i .lent in
+    let h = handsOf q scheme (i .workers) (i .turns) in
+    let log = shown lent h in
+    record {
+      answer = record {
+        refusal = 0;
+        place = 0;
+        best = bestAt q (full (tableCount q));
+        rows = length (memo q);
+        cells = length (skips q);
+        pairs = length h;
+        counts = perWorker (λ w. length (only w h));
+      };
+      left = record {
+        sets = over (memo q) (lent .sets);
+        estimates = over (map (estimate q) (memo q)) (lent .estimates);
+        costs = over (map (bestAt q) (memo q)) (lent .costs);
+        outers = over (map (λ (S : ℕ). rowAt q S .outer) (memo q)) (lent .outers);
+        methods = over (map (λ (S : ℕ). rowAt q S .method) (memo q)) (lent .methods);
+        skips = over (skips q) (lent .skips);
+        logWorkers = over (map (λ (x : Hand Numbered). x .worker) log) (lent .logWorkers);
+        logDriving = over (map (λ (x : Hand Numbered). pairOf x .driving) log) (lent .logDriving);
+        logInner = over (map (λ (x : Hand Numbered). pairOf x .inner) log) (lent .logInner);
+        logCosts = over (each (standing q h) 0 (length log)) (lent .logCosts);
+      };
+    }
+
+unfoldable pub refusedOf : Input → Outcome
+refusedOf i = record { answer = refusal (verdict i); left = i .lent }
+
+unfoldable pub planWith : Input → NewScheme → Outcome
+planWith i (Good scheme) = planOf i scheme
+planWith i Unknown = refusedOf i
+
+-- the outcome of an input
+unfoldable pub outcome : Input → Outcome
+outcome i = cond (eqb (verdict i .number) 0) (planWith i (schemeOf (i .scheme))) (refusedOf i)
+
+-- the same, with every definition on its way open, so that it computes at an input that is written out
+unfoldable pub computed : Input → Outcome
+unfolding outcome planWith refusedOf planOf standing handsOf bestAt rowAt each
+    holds number tablesFrom tables keep inRow ones onesIn
+    joinsAt divided byEdges byLower withTable running estimate price
+    combos sequences rowsOf memo skipFrom vectorsFrom vectors skips
+    withRow across within driven candidatesOf candidates joinable
+    numbered cut inCut owns met share queue only sizes-exist
+    refuse firstBad firstOf allLong allSame groups badTable badMethod joinedBelow repeats edgeOr badEdge isRefused badTurn checks rooms verdict
+    connected? between? find has
+    sooner better bestOf byMethod splitsAt offersBelow pickOf scanRow rowOf offersOf offersFor
+computed i = outcome i
+
+-- ---- and that it is right
+each-length : (f : ℕ → ℕ) (w n : ℕ) → length (each f w n) ≡ n
+unfolding each
+each-length f w zero = refl
+each-length f w (suc n) = ap suc (each-length f (suc w) n)
+
+each-at : (f : ℕ → ℕ) (w n j : ℕ) → j < n → getD (each f w n) j 0 ≡ f (w + j)
+unfolding each
+each-at f w zero j l = absurd (omega arith)
+each-at f w (suc n) zero l = let e : w ≡ w + 0 = omega arith in ap f e
+each-at f w (suc n) (suc j) l = let e : suc w + j ≡ w + suc j = omega arith in each-at f (suc w) n j (omega arith) ∙ ap f e
+
+pub entries-of : (m : ℕ) (ts : List ℕ) → ((j : ℕ) → j < length ts → getD ts j 0 < m) → Entries m ts
+unfolding Entries
+entries-of m [] h = tt
+entries-of m (t ∷ ts) h = (h 0 (omega arith), entries-of m ts (λ j l. h (suc j) (omega arith)))
+
+-- the pair of turn j is one of those up to it
+pair-at : (h : List (Hand Numbered)) (j : ℕ) → j < length h → (p : Pair) × List·Memᴰ p (upTo h j) × (union p ≡ resultAt h j)
+pair-at [] j l = absurd (omega arith)
+pair-at (x ∷ h) zero l = (pairOf x, List·Memᴰ·head refl, refl)
+pair-at (x ∷ h) (suc j) l = let r = pair-at h j (omega arith) in (r .0, List·Memᴰ·tail (r .1), r .2)
+
+-- and those are among all
+up-to-in : (h : List (Hand Numbered)) (n : ℕ) (p : Pair) → List·Memᴰ p (map pairOf (take n h)) → List·Memᴰ p (map pairOf h)
+up-to-in [] zero p m = m
+up-to-in [] (suc n) p m = m
+up-to-in (x ∷ h) zero p m = absurd (List·Memᴰ·not-nil m)
+up-to-in (x ∷ h) (suc n) p (List·Memᴰ·head e) = List·Memᴰ·head e
+up-to-in (x ∷ h) (suc n) p (List·Memᴰ·tail m) = List·Memᴰ·tail (up-to-in h n p m)
+
+written : (n : ℕ) (v l : List ℕ) → length v ≡ n → n ≤ length l → Spared n l (over v l)
+written n v l e h = subst (λ (k : ℕ). Spared k l (over v l)) e (record { length-kept = over-length v l (omega arith); kept = over-spare v l })
+
+module _ (i : Input) (good : Accepted i) where
+  q : Query
+  q = i .query
+
+  method-one : IsMethod q 1
+  unfolding q
+  method-one = record { from-one = omega arith; to-count = good .checked .sound .some-method }
+
+  best-least : (S : ℕ) → Connected q S → Least q S (bestAt q S)
+  unfolding bestAt rowAt q
+  best-least S c = row-least q method-one (suc (tableCount q)) S (omega (arith, size-count q S c)) c
+
+  row-right : (S : ℕ) → Connected q S → Row q S (bestAt q S) (rowAt q S .outer) (rowAt q S .method)
+  unfolding rowAt q
+  row-right S c = record {
+    least = best-least S c;
+    one = λ l. unfold rowOf in (unfold scanRow in (rw (le-leb (size S) 1 l) (refl, refl)));
+    more = λ two. row-pick q method-one (tableCount q) S (omega (arith, size-count q S c)) c two;
+  }
+
+  filled : (scheme : Scheme) → Filled q (i .lent) (planOf i scheme .left)
+  unfolding planOf q
+  filled scheme = record {
+    sets = refl;
+    estimates = refl;
+    rows = λ j l. rw (at-row (bestAt q) (i .lent .costs) j l, at-row (λ (S : ℕ). rowAt q S .outer) (i .lent .outers) j l, at-row (λ (S : ℕ). rowAt q S .method) (i .lent .methods) j l)
+        (row-right (getD (memo q) j 0) (memo-only q (getD (memo q) j 0) (at-in 0 (memo q) j l)));
+    costs = column (bestAt q) (i .lent .costs) (good .checked .columns .costs);
+    outers = column (λ (S : ℕ). rowAt q S .outer) (i .lent .outers) (good .checked .columns .outers);
+    methods = column (λ (S : ℕ). rowAt q S .method) (i .lent .methods) (good .checked .columns .methods);
+    skips = refl;
+  }
+    where
+      at-row : (f : ℕ → ℕ) (l : List ℕ) (j : ℕ) → j < length (memo q) → getD (over (map f (memo q)) l) j 0 ≡ f (getD (memo q) j 0)
+      at-row f l j h = over-at (map f (memo q)) l j (omega (arith, length-map f (memo q))) ∙ at-map f 0 (memo q) j h
+
+      column : (f : ℕ → ℕ) (l : List ℕ) → length l ≡ length (i .lent .sets) → Spared (length (memo q)) l (over (map f (memo q)) l)
+      column f l e = written (length (memo q)) (map f (memo q)) l (length-map f (memo q)) (omega (arith, good .rows))
+
+  -- the turns
+  module _ (scheme : Scheme) where
+    handed : List (Hand Numbered)
+    handed = handsOf q scheme (i .workers) (i .turns)
+
+    handed-sizes : Sizes (i .workers) (queue q scheme (i .workers)) 2 (tableCount q - 1) (i .turns) handed
+    unfolding handsOf handed
+    handed-sizes = sizes-exist (i .workers) (queue q scheme (i .workers)) 2 (tableCount q - 1) (i .turns) .1
+
+    handed-joinable : (p : Pair) → List·Memᴰ p (map pairOf handed) → JoinablePair q (bestAt q) p
+    handed-joinable p m = plan-joinable q scheme (i .workers) (good .checked .crew .some-worker) (bestAt q) (i .turns) handed (entries-of (i .workers) (i .turns) (good .checked .turns)) handed-sizes p m
+
+    stands : (j : ℕ) → j < length handed → Stands q (upTo handed j) (resultAt handed j) (standing q handed j)
+    unfolding standing
+    stands j l =
+        let p = pair-at handed j l in
+        row-stands q (bestAt q) (upTo handed j)
+        (λ p′ m. let c = handed-joinable p′ (up-to-in handed (suc j) p′ m) in (best-least (p′ .driving) (c .driving-conn), best-least (p′ .inner) (c .inner-conn)))
+        (handed-best q (bestAt q) method-one (upTo handed j) (resultAt handed j) (p .0) (p .1) (p .2))
+
+    logged : Logged q handed (i .lent) (planOf i scheme .left)
+    unfolding planOf q handed
+    logged = record {
+      workers = refl;
+      driving = refl;
+      inner = refl;
+      costs = λ j l. rw (over-at (each (standing q handed) 0 n) (i .lent .logCosts) j (omega (arith, each-length (standing q handed) 0 n)), each-at (standing q handed) 0 n j l, zero-add j)
+          (stands j (omega (arith, length-take (length (i .lent .logWorkers)) handed)));
+      spare = written n (each (standing q handed) 0 n) (i .lent .logCosts) (each-length (standing q handed) 0 n) (omega (arith, length-take (length (i .lent .logWorkers)) handed, good .checked .columns .log-costs));
+    }
+      where
+        n : ℕ
+        n = length (shown (i .lent) handed)
+
+    counted : Counted q handed (planOf i scheme .answer)
+    unfolding planOf q handed
+    counted = record { refusal = refl; place = refl; best = best-least (full (tableCount q)) (good .checked .sound .connected); rows = refl; cells = refl; pairs = refl; counts = refl }
+
+    plan-given : schemeOf (i .scheme) ≡ Good scheme → Given i (planOf i scheme)
+    unfolding q
+    plan-given e = record {
+      handed = handed;
+      turns = record { scheme = scheme; named = e; sizes = handed-sizes };
+      memory = filled scheme;
+      log = logged;
+      answer = counted;
+    }
+
+-- FOR EVERY INPUT THERE IS AN OUTCOME
+pub outcome-planned : (i : Input) → Planned i (outcome i)
+unfolding outcome
+outcome-planned i = record { given = given; refused = refused }
+  where
+    given : verdict i .number ≡ 0 → Given i (cond (eqb (verdict i .number) 0) (planWith i (schemeOf (i .scheme))) (refusedOf i))
+    given e =
+        let a = accepted i e in
+        rw (eq-eqb (verdict i .number) 0 e, a .checked .crew .is-named) (unfold planWith in (plan-given i a (a .checked .crew .named) (a .checked .crew .is-named)))
+
+    refused : 0 < verdict i .number → Refused i (cond (eqb (verdict i .number) 0) (planWith i (schemeOf (i .scheme))) (refusedOf i))
+    refused l = rw (ne-eqb (verdict i .number) 0 (λ e. omega arith)) (unfold refusedOf in (record { answer = refl; lent = refl }))

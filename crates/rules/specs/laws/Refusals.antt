@@ -1,0 +1,403 @@
+-- The verdict is 0 exactly for the accepted inputs.
+use mathlib.Core.Path.{_≡_, refl, sym, ap, _∙_}
+use mathlib.Core.Logic.{_⊎_, inl, inr, ⊎-elim}
+use mathlib.Core.Bool.{Bool, true, false, cond, _&&_, _||_, not}
+use mathlib.Core.List.{List, [], _∷_, _++_}
+use Prim.Native.Nat.{ℕ, zero, suc, _+_, _≤_, _<_}
+use native.Mathlib.Decide.{ℕ-discrete}
+use native.Mathlib.Omega.{arith}
+use lib.Dec.{eqb, leb, ltb}
+use lib.ListN.{length, getD}
+use borrow.Author.Tests.{eqb-true, eqb-false, eq-eqb, ne-eqb, ltb-true, ltb-false, lt-ltb, le-ltb, leb-true, leb-false, le-leb, not-true, not-false}
+use Rattle.rules.specs.declared.Edge.{Edge}
+use Rattle.rules.specs.declared.NewEdge.{NewEdge}
+use Rattle.rules.specs.declared.NewEdge.the-variants.{Good as GoodEdge, Outside, Itself, Divisor}
+use Rattle.rules.specs.declared.Scheme.{Scheme}
+use Rattle.rules.specs.declared.NewScheme.{NewScheme}
+use Rattle.rules.specs.declared.NewScheme.the-variants.{Good as GoodScheme, Unknown}
+use Rattle.rules.specs.declared.NewCrew.{NewCrew}
+use Rattle.rules.specs.declared.NewCrew.the-variants.{Good as GoodCrew, Refused}
+use Rattle.rules.specs.Limits.{maxTables, maxMethods, maxWorkers, maxDivisor, maxRows, maxScan, maxFixed, maxCoefficient, inRange, tablesFit, methodsFit, tableFits, methodFits}
+use Rattle.rules.specs.Kinds.{newEdge, edgeNumber, schemeOf, crewWith, newCrew}
+use Rattle.rules.specs.Lists.{isYes}
+use Rattle.rules.specs.Sets.{full}
+use Rattle.rules.specs.Query.{Query, tableCount, edgeCount, methodCount, Joins}
+use Rattle.rules.specs.Connected.{Connected}
+use Rattle.rules.specs.Estimate.{joinsAt}
+use Rattle.rules.specs.Rows.{memo}
+use Rattle.rules.specs.Skips.{skips}
+use Rattle.rules.specs.Refusals.{Memory, Input, Verdict, refuse, firstBad, firstOf, allLong, allSame, groups, badTable, badMethod, joinedBelow, repeats, edgeOr, badEdge, isRefused, badTurn, checks, rooms, verdict}
+use Rattle.rules.specs.Checked.{SameLengths, TableGood, MethodGood, EdgeGood, Sound, Columns, CrewGood, Checked, Accepted}
+use Rattle.rules.specs.laws.Bools.{true-or-false, not-both, and-true, and-true-l, and-true-r, or-cases, or-true-l, or-true-r, yes-true, true-yes}
+use Rattle.rules.specs.laws.Decide.{connected?}
+
+-- ---- the shapes of a check
+-- no verdict of the list is a refusal
+unfoldable pub AllNone : List Verdict → Type 0
+AllNone [] = Unit {0}
+AllNone (v ∷ vs) = (v .number ≡ 0) × AllNone vs
+
+none-all : (vs : List Verdict) → firstOf vs .number ≡ 0 → AllNone vs
+unfolding firstOf AllNone
+none-all [] e = tt
+none-all (v ∷ vs) e = go (none-all vs) (true-or-false (eqb (v .number) 0)) e
+  where
+    go : (firstOf vs .number ≡ 0 → AllNone vs) → (eqb (v .number) 0 ≡ true) ⊎ (eqb (v .number) 0 ≡ false) → cond (eqb (v .number) 0) (firstOf vs) v .number ≡ 0 → (v .number ≡ 0) × AllNone vs
+    go ih (inl z) e = (eqb-true (v .number) 0 z, ih (rw z at e))
+    go ih (inr z) e = absurd (eqb-false (v .number) 0 z (rw z at e))
+
+all-none : (vs : List Verdict) → AllNone vs → firstOf vs ≡ record { number = 0; place = 0 }
+unfolding firstOf AllNone
+all-none [] h = refl
+all-none (v ∷ vs) h = rw (eq-eqb (v .number) 0 (h .0)) (all-none vs (h .1))
+
+none-refuse : (n : ℕ) (b : Bool) → refuse (suc n) b .number ≡ 0 → b ≡ false
+unfolding refuse
+none-refuse n true e = absurd (omega arith)
+none-refuse n false e = refl
+
+refuse-none : (n : ℕ) (b : Bool) → b ≡ false → refuse n b .number ≡ 0
+unfolding refuse
+refuse-none n b e = rw e
+
+none-bad : (f : ℕ → ℕ) (i n : ℕ) → firstBad f i n .number ≡ 0 → (j : ℕ) → i ≤ j → j < i + n → f j ≡ 0
+unfolding firstBad
+none-bad f i zero e j l u = absurd (omega arith)
+none-bad f i (suc n) e j l u = go (none-bad f (suc i) n) (true-or-false (eqb (f i) 0)) e
+  where
+    go : (firstBad f (suc i) n .number ≡ 0 → (k : ℕ) → suc i ≤ k → k < suc i + n → f k ≡ 0) → (eqb (f i) 0 ≡ true) ⊎ (eqb (f i) 0 ≡ false)
+        → cond (eqb (f i) 0) (firstBad f (suc i) n) (record { number = f i; place = i }) .number ≡ 0 → f j ≡ 0
+    go ih (inl z) e = here (ℕ-discrete i j)
+      where
+        here : Dec (i ≡ j) → f j ≡ 0
+        here (yes p) = rw (← p) (eqb-true (f i) 0 z)
+        here (no g) = ih (rw z at e) j (omega arith) (omega arith)
+    go ih (inr z) e = absurd (eqb-false (f i) 0 z (rw z at e))
+
+bad-none : (f : ℕ → ℕ) (i n : ℕ) → ((j : ℕ) → i ≤ j → j < i + n → f j ≡ 0) → firstBad f i n .number ≡ 0
+unfolding firstBad
+bad-none f i zero h = refl
+bad-none f i (suc n) h = rw (eq-eqb (f i) 0 (h i (omega arith) (omega arith))) (bad-none f (suc i) n (λ j l u. h j (omega arith) (omega arith)))
+
+-- a test that must hold, as a number
+test-none : (b : Bool) (n : ℕ) → cond b 0 (suc n) ≡ 0 → b ≡ true
+test-none true n e = refl
+test-none false n e = absurd (omega arith)
+
+none-test : (b : Bool) (n : ℕ) → b ≡ true → cond b 0 n ≡ 0
+none-test b n e = rw e
+
+range : (low high n : ℕ) → inRange low high n ≡ true → (low ≤ n) × (n ≤ high)
+range low high n e = (leb-true low n (and-true-l (leb low n) (leb n high) e), leb-true n high (and-true-r (leb low n) (leb n high) e))
+
+of-range : (low high n : ℕ) → low ≤ n → n ≤ high → inRange low high n ≡ true
+of-range low high n a b = and-true (leb low n) (leb n high) (le-leb low n a) (le-leb n high b)
+
+-- ---- lengths, as facts
+unfoldable pub AllLong : ℕ → List (List ℕ) → Type 0
+AllLong n [] = Unit {0}
+AllLong n (l ∷ ls) = (length l ≡ n) × AllLong n ls
+
+unfoldable pub AllSame : List (List (List ℕ)) → Type 0
+AllSame [] = Unit {0}
+AllSame ([] ∷ gs) = AllSame gs
+AllSame ((l ∷ ls) ∷ gs) = AllLong (length l) ls × AllSame gs
+
+long-true : (n : ℕ) (ls : List (List ℕ)) → allLong n ls ≡ true → AllLong n ls
+unfolding allLong AllLong
+long-true n [] e = tt
+long-true n (l ∷ ls) e = (eqb-true (length l) n (and-true-l (eqb (length l) n) (allLong n ls) e), long-true n ls (and-true-r (eqb (length l) n) (allLong n ls) e))
+
+true-long : (n : ℕ) (ls : List (List ℕ)) → AllLong n ls → allLong n ls ≡ true
+unfolding allLong AllLong
+true-long n [] h = refl
+true-long n (l ∷ ls) h = and-true (eqb (length l) n) (allLong n ls) (eq-eqb (length l) n (h .0)) (true-long n ls (h .1))
+
+same-true : (gs : List (List (List ℕ))) → allSame gs ≡ true → AllSame gs
+unfolding allSame AllSame
+same-true [] e = tt
+same-true ([] ∷ gs) e = same-true gs e
+same-true ((l ∷ ls) ∷ gs) e = (long-true (length l) ls (and-true-l (allLong (length l) ls) (allSame gs) e), same-true gs (and-true-r (allLong (length l) ls) (allSame gs) e))
+
+true-same : (gs : List (List (List ℕ))) → AllSame gs → allSame gs ≡ true
+unfolding allSame AllSame
+true-same [] h = refl
+true-same ([] ∷ gs) h = true-same gs h
+true-same ((l ∷ ls) ∷ gs) h = and-true (allLong (length l) ls) (allSame gs) (true-long (length l) ls (h .0)) (true-same gs (h .1))
+
+lengths-of : (q : Query) (lent : Memory) → AllSame (groups q lent) → SameLengths q × Columns lent
+unfolding AllSame AllLong groups
+lengths-of q lent h =
+    let e = h .1 .0 in
+    let m = h .1 .1 .0 in
+    let c = h .1 .1 .1 .0 in
+    let l = h .1 .1 .1 .1 .0 in (
+      record { scans = h .0 .0; right = e .0; divisors = e .1 .0; outer = m .0; inner = m .1 .0; result = m .1 .1 .0 },
+      record { estimates = c .0; costs = c .1 .0; outers = c .1 .1 .0; methods = c .1 .1 .1 .0; driving = l .0; inner = l .1 .0; log-costs = l .1 .1 .0 },
+    )
+
+of-lengths : (q : Query) (lent : Memory) → SameLengths q → Columns lent → AllSame (groups q lent)
+unfolding AllSame AllLong groups
+of-lengths q lent s c = (
+  (s .scans, tt),
+  ((s .right, (s .divisors, tt)), ((s .outer, (s .inner, (s .result, tt))), ((c .estimates, (c .costs, (c .outers, (c .methods, tt)))), ((c .driving, (c .inner, (c .log-costs, tt))), tt)))),
+)
+
+-- ---- records
+table-true : (q : Query) (i : ℕ) → badTable q i ≡ 0 → TableGood q i
+unfolding badTable
+table-true q i e =
+    let r = getD (q .rows) i 0 in
+    let s = getD (q .scans) i 0 in
+    let t = test-none (tableFits r s) 2 e in
+    record { rows = leb-true r maxRows (and-true-l (leb r maxRows) (leb s maxScan) t); scan = leb-true s maxScan (and-true-r (leb r maxRows) (leb s maxScan) t) }
+
+true-table : (q : Query) (i : ℕ) → TableGood q i → badTable q i ≡ 0
+unfolding badTable
+true-table q i g =
+    let r = getD (q .rows) i 0 in
+    let s = getD (q .scans) i 0 in
+    none-test (tableFits r s) 3 (and-true (leb r maxRows) (leb s maxScan) (le-leb r maxRows (g .rows)) (le-leb s maxScan (g .scan)))
+
+method-true : (q : Query) (i : ℕ) → badMethod q i ≡ 0 → MethodGood q i
+unfolding badMethod
+method-true q i e =
+    let f = getD (q .fixed) i 0 in
+    let a = leb (getD (q .perOuter) i 0) maxCoefficient in
+    let b = leb (getD (q .perInner) i 0) maxCoefficient in
+    let c = leb (getD (q .perResult) i 0) maxCoefficient in
+    let t = test-none (leb f maxFixed && (a && (b && c))) 4 e in
+    let t₁ = and-true-r (leb f maxFixed) (a && (b && c)) t in
+    let t₂ = and-true-r a (b && c) t₁ in
+    record {
+      fixed = leb-true f maxFixed (and-true-l (leb f maxFixed) (a && (b && c)) t);
+      outer = leb-true (getD (q .perOuter) i 0) maxCoefficient (and-true-l a (b && c) t₁);
+      inner = leb-true (getD (q .perInner) i 0) maxCoefficient (and-true-l b c t₂);
+      result = leb-true (getD (q .perResult) i 0) maxCoefficient (and-true-r b c t₂);
+    }
+
+true-method : (q : Query) (i : ℕ) → MethodGood q i → badMethod q i ≡ 0
+unfolding badMethod
+true-method q i g =
+    let f = getD (q .fixed) i 0 in
+    let a = getD (q .perOuter) i 0 in
+    let b = getD (q .perInner) i 0 in
+    let c = getD (q .perResult) i 0 in
+    none-test (methodFits f a b c) 5 (rw (le-leb f maxFixed (g .fixed), le-leb a maxCoefficient (g .outer), le-leb b maxCoefficient (g .inner), le-leb c maxCoefficient (g .result)))
+
+-- ---- edges
+-- the test of an edge's two tables, and what it says
+pub joins-true : (q : Query) (a b i : ℕ) → joinsAt q a b i ≡ true → Joins q i a b
+unfolding joinsAt
+joins-true q a b i e = ⊎-elim
+    (λ h. inl (eqb-true l a (and-true-l (eqb l a) (eqb r b) h), eqb-true r b (and-true-r (eqb l a) (eqb r b) h)))
+    (λ h. inr (eqb-true l b (and-true-l (eqb l b) (eqb r a) h), eqb-true r a (and-true-r (eqb l b) (eqb r a) h)))
+    (or-cases (eqb l a && eqb r b) (eqb l b && eqb r a) e)
+  where
+    l : ℕ
+    l = getD (q .left) i 0
+
+    r : ℕ
+    r = getD (q .right) i 0
+
+pub true-joins : (q : Query) (a b i : ℕ) → Joins q i a b → joinsAt q a b i ≡ true
+unfolding joinsAt
+true-joins q a b i (inl h) =
+    or-true-l (eqb (getD (q .left) i 0) a && eqb (getD (q .right) i 0) b) (eqb (getD (q .left) i 0) b && eqb (getD (q .right) i 0) a)
+    (and-true (eqb (getD (q .left) i 0) a) (eqb (getD (q .right) i 0) b) (eq-eqb (getD (q .left) i 0) a (h .0)) (eq-eqb (getD (q .right) i 0) b (h .1)))
+true-joins q a b i (inr h) =
+    or-true-r (eqb (getD (q .left) i 0) a && eqb (getD (q .right) i 0) b) (eqb (getD (q .left) i 0) b && eqb (getD (q .right) i 0) a)
+    (and-true (eqb (getD (q .left) i 0) b) (eqb (getD (q .right) i 0) a) (eq-eqb (getD (q .left) i 0) b (h .0)) (eq-eqb (getD (q .right) i 0) a (h .1)))
+
+below-false : (q : Query) (a b n : ℕ) → joinedBelow q a b n ≡ false → (j : ℕ) → j < n → Joins q j a b → ⊥
+unfolding joinedBelow
+below-false q a b zero e j l h = omega arith
+below-false q a b (suc n) e j l h = go (true-or-false (joinedBelow q a b n)) (true-or-false (joinsAt q a b n)) (below-false q a b n)
+  where
+    go : (joinedBelow q a b n ≡ true) ⊎ (joinedBelow q a b n ≡ false) → (joinsAt q a b n ≡ true) ⊎ (joinsAt q a b n ≡ false)
+        → (joinedBelow q a b n ≡ false → (k : ℕ) → k < n → Joins q k a b → ⊥) → ⊥
+    go (inl x) y ih = not-both (joinedBelow q a b n || joinsAt q a b n) (or-true-l (joinedBelow q a b n) (joinsAt q a b n) x) e
+    go (inr x) (inl y) ih = not-both (joinedBelow q a b n || joinsAt q a b n) (or-true-r (joinedBelow q a b n) (joinsAt q a b n) y) e
+    go (inr x) (inr y) ih = last (ℕ-discrete j n)
+      where
+        last : Dec (j ≡ n) → ⊥
+        last (yes p) = not-both (joinsAt q a b n) (true-joins q a b n (rw p at h)) y
+        last (no g) = ih x j (omega arith) h
+
+false-below : (q : Query) (a b n : ℕ) → ((j : ℕ) → j < n → Joins q j a b → ⊥) → joinedBelow q a b n ≡ false
+unfolding joinedBelow
+false-below q a b zero h = refl
+false-below q a b (suc n) h = ⊎-elim (λ e. absurd (h n (omega arith) (joins-true q a b n e))) (λ e. rw (false-below q a b n (λ j l. h j (omega arith)), e)) (true-or-false (joinsAt q a b n))
+
+edge-tests : (e : Edge) (a b c : Bool) → edgeNumber (cond (not a) Outside (cond b Itself (cond (not c) Divisor (GoodEdge e)))) ≡ 0 → (a ≡ true) × (b ≡ false) × (c ≡ true)
+edge-tests e false b c h = absurd (omega arith)
+edge-tests e true true c h = absurd (omega arith)
+edge-tests e true false false h = absurd (omega arith)
+edge-tests e true false true h = (refl, refl, refl)
+
+or-zero : (n : ℕ) (b : Bool) → edgeOr n b ≡ 0 → (n ≡ 0) × (b ≡ false)
+unfolding edgeOr
+or-zero zero true e = absurd (omega arith)
+or-zero zero false e = (refl, refl)
+or-zero (suc n) b e = absurd (omega arith)
+
+edge-true : (q : Query) (i : ℕ) → badEdge q i ≡ 0 → EdgeGood q i
+unfolding badEdge repeats
+edge-true q i e = record {
+  left-some = range 1 N l (and-true-l (inRange 1 N l) (inRange 1 N r) (t .0)) .0;
+  left-known = range 1 N l (and-true-l (inRange 1 N l) (inRange 1 N r) (t .0)) .1;
+  right-some = range 1 N r (and-true-r (inRange 1 N l) (inRange 1 N r) (t .0)) .0;
+  right-known = range 1 N r (and-true-r (inRange 1 N l) (inRange 1 N r) (t .0)) .1;
+  different = eqb-false l r (t .1);
+  divisor-some = range 1 maxDivisor d (t .2) .0;
+  divisor-fits = range 1 maxDivisor d (t .2) .1;
+  new = below-false q l r i (o .1);
+}
+  where
+    N : ℕ
+    N = tableCount q
+
+    l : ℕ
+    l = getD (q .left) i 0
+
+    r : ℕ
+    r = getD (q .right) i 0
+
+    d : ℕ
+    d = getD (q .divisors) i 0
+
+    o : (edgeNumber (newEdge N l r d) ≡ 0) × (joinedBelow q l r i ≡ false)
+    o = or-zero (edgeNumber (newEdge N l r d)) (joinedBelow q l r i) e
+
+    t : ((inRange 1 N l && inRange 1 N r) ≡ true) × (eqb l r ≡ false) × (inRange 1 maxDivisor d ≡ true)
+    t = edge-tests (record { left = l; right = r; divisor = d }) (inRange 1 N l && inRange 1 N r) (eqb l r) (inRange 1 maxDivisor d) (o .0)
+
+true-edge : (q : Query) (i : ℕ) → EdgeGood q i → badEdge q i ≡ 0
+unfolding badEdge repeats edgeOr
+true-edge q i g =
+    let N = tableCount q in
+    let l = getD (q .left) i 0 in
+    let r = getD (q .right) i 0 in
+    let d = getD (q .divisors) i 0 in
+    rw (
+      of-range 1 N l (g .left-some) (g .left-known),
+      of-range 1 N r (g .right-some) (g .right-known),
+      ne-eqb l r (g .different),
+      of-range 1 maxDivisor d (g .divisor-some) (g .divisor-fits),
+      false-below q l r i (g .new),
+    )
+
+-- ---- workers, scheme and turns
+known-scheme : (n : ℕ) (s : NewScheme) → isRefused (crewWith n s) ≡ false → (k : Scheme) × (s ≡ GoodScheme k)
+unfolding isRefused
+known-scheme n (GoodScheme k) e = (k, refl)
+known-scheme n Unknown e = absurd (not-both true refl e)
+
+crew-true : (workers scheme : ℕ) → isRefused (newCrew workers scheme) ≡ false → CrewGood workers scheme
+unfolding isRefused
+crew-true workers scheme e = go (true-or-false (inRange 1 maxWorkers workers)) e
+  where
+    go : (inRange 1 maxWorkers workers ≡ true) ⊎ (inRange 1 maxWorkers workers ≡ false) → isRefused (cond (inRange 1 maxWorkers workers) (crewWith workers (schemeOf scheme)) Refused) ≡ false → CrewGood workers scheme
+    go (inl t) h =
+        let k = known-scheme workers (schemeOf scheme) (rw t at h) in
+        record { some-worker = range 1 maxWorkers workers t .0; few-workers = range 1 maxWorkers workers t .1; named = k .0; is-named = k .1 }
+    go (inr t) h = absurd (not-both true refl (rw t at h))
+
+true-crew : (workers scheme : ℕ) → CrewGood workers scheme → isRefused (newCrew workers scheme) ≡ false
+unfolding isRefused
+true-crew workers scheme g = rw (of-range 1 maxWorkers workers (g .some-worker) (g .few-workers), g .is-named)
+
+-- ---- the verdict
+turn-true : (workers : ℕ) (turns : List ℕ) (j : ℕ) → badTurn workers turns j ≡ 0 → getD turns j 0 < workers
+unfolding badTurn
+turn-true workers turns j e = ltb-true (getD turns j 0) workers (test-none (ltb (getD turns j 0) workers) 11 e)
+
+true-turn : (workers : ℕ) (turns : List ℕ) (j : ℕ) → getD turns j 0 < workers → badTurn workers turns j ≡ 0
+unfolding badTurn
+true-turn workers turns j l = none-test (ltb (getD turns j 0) workers) 12 (lt-ltb (getD turns j 0) workers l)
+
+-- where no refusal is given, the input is accepted
+pub accepted : (i : Input) → verdict i .number ≡ 0 → Accepted i
+unfolding verdict checks rooms AllNone
+accepted i e = record {
+  checked = record {
+    sound = record {
+      lengths = lengths .0;
+      some-table = some-tables .0;
+      few-tables = some-tables .1;
+      tables = λ j l. table-true q j (none-bad (badTable q) 0 (tableCount q) (a .1 .1 .0) j (omega arith) (omega arith));
+      some-method = some-methods .0;
+      few-methods = some-methods .1;
+      methods = λ j l. method-true q j (none-bad (badMethod q) 0 (methodCount q) (a .1 .1 .1 .1 .0) j (omega arith) (omega arith));
+      edges = λ j l. edge-true q j (none-bad (badEdge q) 0 (edgeCount q) (a .1 .1 .1 .1 .1 .0) j (omega arith) (omega arith));
+      connected = yes-true all? (not-false (isYes all?) (none-refuse 9 (not (isYes all?)) (a .1 .1 .1 .1 .1 .1 .0)));
+    };
+    columns = lengths .1;
+    crew = crew-true (i .workers) (i .scheme) (none-refuse 10 (isRefused (newCrew (i .workers) (i .scheme))) (a .1 .1 .1 .1 .1 .1 .1 .0));
+    turns = λ j l. turn-true (i .workers) (i .turns) j (none-bad (badTurn (i .workers) (i .turns)) 0 (length (i .turns)) (a .1 .1 .1 .1 .1 .1 .1 .1 .0) j (omega arith) (omega arith));
+  };
+  rows = ltb-false (length (i .lent .sets)) (length (memo q)) (none-refuse 12 (ltb (length (i .lent .sets)) (length (memo q))) (a .1 .1 .1 .1 .1 .1 .1 .1 .1 .0));
+  cells = ltb-false (length (i .lent .skips)) (length (skips q)) (none-refuse 13 (ltb (length (i .lent .skips)) (length (skips q))) (a .1 .1 .1 .1 .1 .1 .1 .1 .1 .1 .0));
+}
+  where
+    q : Query
+    q = i .query
+
+    all? : Dec (Connected q (full (tableCount q)))
+    all? = connected? q (full (tableCount q))
+
+    a : AllNone (checks i ++ rooms i)
+    a = none-all (checks i ++ rooms i) e
+
+    lengths : SameLengths q × Columns (i .lent)
+    lengths = lengths-of q (i .lent) (same-true (groups q (i .lent)) (not-false (allSame (groups q (i .lent))) (none-refuse 0 (not (allSame (groups q (i .lent)))) (a .0))))
+
+    some-tables : (1 ≤ tableCount q) × (tableCount q ≤ maxTables)
+    some-tables = range 1 maxTables (tableCount q) (not-false (tablesFit (tableCount q)) (none-refuse 1 (not (tablesFit (tableCount q))) (a .1 .0)))
+
+    some-methods : (1 ≤ methodCount q) × (methodCount q ≤ maxMethods)
+    some-methods = range 1 maxMethods (methodCount q) (not-false (methodsFit (methodCount q)) (none-refuse 3 (not (methodsFit (methodCount q))) (a .1 .1 .1 .0)))
+
+-- and the other way round: A PLAN IS GIVEN EXACTLY FOR THE ACCEPTED INPUTS
+pub accepted-none : (i : Input) → Accepted i → verdict i ≡ record { number = 0; place = 0 }
+unfolding verdict checks rooms AllNone
+accepted-none i c = all-none (checks i ++ rooms i) (
+  refuse-none 1 (not (allSame (groups q (i .lent)))) (rw (true-same (groups q (i .lent)) (of-lengths q (i .lent) (s .lengths) (c .checked .columns)))),
+  (
+    refuse-none 2 (not (tablesFit (tableCount q))) (rw (of-range 1 maxTables (tableCount q) (s .some-table) (s .few-tables))),
+    (
+      bad-none (badTable q) 0 (tableCount q) (λ j l u. true-table q j (s .tables j (omega arith))),
+      (
+        refuse-none 4 (not (methodsFit (methodCount q))) (rw (of-range 1 maxMethods (methodCount q) (s .some-method) (s .few-methods))),
+        (
+          bad-none (badMethod q) 0 (methodCount q) (λ j l u. true-method q j (s .methods j (omega arith))),
+          (
+            bad-none (badEdge q) 0 (edgeCount q) (λ j l u. true-edge q j (s .edges j (omega arith))),
+            (
+              refuse-none 10 (not (isYes (connected? q (full (tableCount q))))) (rw (true-yes (connected? q (full (tableCount q))) (s .connected))),
+              (
+                refuse-none 11 (isRefused (newCrew (i .workers) (i .scheme))) (true-crew (i .workers) (i .scheme) (c .checked .crew)),
+                (
+                  bad-none (badTurn (i .workers) (i .turns)) 0 (length (i .turns)) (λ j l u. true-turn (i .workers) (i .turns) j (c .checked .turns j (omega arith))),
+                  (
+                    refuse-none 13 (ltb (length (i .lent .sets)) (length (memo q))) (le-ltb (length (i .lent .sets)) (length (memo q)) (c .rows)),
+                    (
+                      refuse-none 14 (ltb (length (i .lent .skips)) (length (skips q))) (le-ltb (length (i .lent .skips)) (length (skips q)) (c .cells)),
+                      tt,
+                    ),
+                  ),
+                ),
+              ),
+            ),
+          ),
+        ),
+      ),
+    ),
+  ),
+)
+  where
+    q : Query
+    q = i .query
+
+    s : Sound q
+    s = c .checked .sound

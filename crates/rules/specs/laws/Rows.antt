@@ -1,0 +1,192 @@
+-- The memo's rows: every connected set once, nothing else, in the order of ascending sequences.
+use mathlib.Core.Path.{_≡_, refl, sym, ap, ap₂, _∙_, subst}
+use mathlib.Core.Logic.{_⊎_, inl, inr, ⊎-elim}
+use mathlib.Core.Bool.{Bool, true, false, cond}
+use mathlib.Core.List.{List, [], _∷_, _++_, map, List·Memᴰ, List·Memᴰ·head, List·Memᴰ·tail, List·Memᴰ·append-cases, List·Memᴰ·eq-of-singleton, Memᴰ·append-left, Memᴰ·append-right, List·Memᴰ·not-nil, Memᴰ·map, Memᴰ·of-map, Memᴰ·cast}
+use Prim.Native.Nat.{ℕ, zero, suc, _+_, _^_, _≤_, _<_}
+use native.Mathlib.Decide.{ℕ-discrete}
+use native.Mathlib.Omega.{arith}
+use lib.ListN.{length}
+use Rattle.rules.specs.Lists.{keep, isYes, inRow}
+use Rattle.rules.specs.Sets.{size, number, tables, Ascending}
+use Rattle.rules.specs.Query.{Query, tableCount}
+use Rattle.rules.specs.Connected.{Connected}
+use Rattle.rules.specs.Rows.{Before, Ordered, combos, sequences, rowsOf, memo}
+use Rattle.rules.specs.laws.Bools.{true-or-false, yes-true, true-yes}
+use Rattle.rules.specs.laws.Lists.{keep-in, keep-of, in-row, of-row, Once, once-row}
+use Rattle.rules.specs.laws.Sets.{lt-of-holds, size-pos, size-le}
+use Rattle.rules.specs.laws.Tables.{ascending-less, tables-size, tables-ascending, tables-back, number-back}
+use Rattle.rules.specs.laws.Decide.{connected?}
+
+-- complete
+pub combos-all : (k t n : ℕ) (s : List ℕ) → length s ≡ k → Ascending t (t + n) s → List·Memᴰ s (combos k t n)
+unfolding combos Ascending
+combos-all zero t n [] e r = List·Memᴰ·head refl
+combos-all zero t n (x ∷ s) e r = absurd (omega arith)
+combos-all (suc k) t n [] e r = absurd (omega arith)
+combos-all (suc k) t zero (x ∷ s) e r = absurd (omega (arith, r .0, r .1))
+combos-all (suc k) t (suc n) (x ∷ s) e r =
+    with-or-without (λ r′. combos-all k (suc t) n s (omega arith) r′) (λ r′. combos-all (suc k) (suc t) n (x ∷ s) e r′) (ℕ-discrete x t)
+  where
+    shift : t + suc n ≡ suc t + n
+    shift = omega arith
+
+    with-or-without : (Ascending (suc t) (suc t + n) s → List·Memᴰ s (combos k (suc t) n)) → (Ascending (suc t) (suc t + n) (x ∷ s) → List·Memᴰ (x ∷ s) (combos (suc k) (suc t) n))
+        → Dec (x ≡ t) → List·Memᴰ (x ∷ s) (combos (suc k) t (suc n))
+    with-or-without wi wo (yes p) = Memᴰ·append-left (combos (suc k) (suc t) n) (Memᴰ·cast (ap (λ (y : ℕ). y ∷ s) p) (Memᴰ·map (λ (l : List ℕ). t ∷ l) (wi (rw (p, shift) at (r .2)))))
+    with-or-without wi wo (no f) = Memᴰ·append-right (map (λ (l : List ℕ). t ∷ l) (combos k (suc t) n)) (wo (omega (arith, r .0), omega (arith, r .1), rw shift at (r .2)))
+
+-- and nothing else
+pub combos-only : (k t n : ℕ) (s : List ℕ) → List·Memᴰ s (combos k t n) → (length s ≡ k) × Ascending t (t + n) s
+unfolding combos Ascending
+combos-only zero t n s m = rw (List·Memᴰ·eq-of-singleton m) (refl, tt)
+combos-only (suc k) t zero s m = absurd (List·Memᴰ·not-nil m)
+combos-only (suc k) t (suc n) s m = part (combos-only k (suc t) n) (combos-only (suc k) (suc t) n s) (List·Memᴰ·append-cases (map (λ (l : List ℕ). t ∷ l) (combos k (suc t) n)) m)
+  where
+    shift : suc t + n ≡ t + suc n
+    shift = omega arith
+
+    part : ((l : List ℕ) → List·Memᴰ l (combos k (suc t) n) → (length l ≡ k) × Ascending (suc t) (suc t + n) l)
+        → (List·Memᴰ s (combos (suc k) (suc t) n) → (length s ≡ suc k) × Ascending (suc t) (suc t + n) s)
+        → List·Memᴰ s (map (λ (l : List ℕ). t ∷ l) (combos k (suc t) n)) ⊎ List·Memᴰ s (combos (suc k) (suc t) n) → (length s ≡ suc k) × Ascending t (t + suc n) s
+    part wi wo (inl a) =
+        let o = Memᴰ·of-map (λ (l : List ℕ). t ∷ l) (combos k (suc t) n) a in
+        let h = wi (o .0) (o .1) in
+        rw (← o .2) (ap suc (h .0), (omega arith, omega arith, rw shift at (h .1)))
+    part wi wo (inr b) = let h = wo b in (h .0, ascending-less t (t + suc n) s (rw shift at (h .1)))
+
+ordered-append : (xs ys : List (List ℕ)) → Ordered xs → Ordered ys → ((a b : List ℕ) → List·Memᴰ a xs → List·Memᴰ b ys → Before a b) → Ordered (xs ++ ys)
+unfolding Ordered
+ordered-append [] ys p q c = q
+ordered-append (a ∷ xs) ys p q c = (λ s m. ⊎-elim (p .0 s) (c a s (List·Memᴰ·head refl)) (List·Memᴰ·append-cases xs m), ordered-append xs ys (p .1) q (λ x y m n. c x y (List·Memᴰ·tail m) n))
+
+ordered-map : (t : ℕ) (ss : List (List ℕ)) → Ordered ss → Ordered (map (λ (l : List ℕ). t ∷ l) ss)
+unfolding Ordered Before
+ordered-map t [] p = tt
+ordered-map t (s ∷ ss) p = (λ s′ m. let o = Memᴰ·of-map (λ (l : List ℕ). t ∷ l) ss m in rw (← o .2) (inr (refl, p .0 (o .0) (o .1))), ordered-map t ss (p .1))
+
+-- in memo order, each once
+pub combos-ordered : (k t n : ℕ) → Ordered (combos k t n)
+unfolding combos Ordered Ascending Before
+combos-ordered zero t n = (λ s m. absurd (List·Memᴰ·not-nil m), tt)
+combos-ordered (suc k) t zero = tt
+combos-ordered (suc k) t (suc n) =
+    ordered-append (map (λ (l : List ℕ). t ∷ l) (combos k (suc t) n)) (combos (suc k) (suc t) n)
+    (ordered-map t (combos k (suc t) n) (combos-ordered k (suc t) n)) (combos-ordered (suc k) (suc t) n) cross
+  where
+    late : (x b : List ℕ) → (length b ≡ suc k) × Ascending (suc t) (suc t + n) b → Before (t ∷ x) b
+    late x [] h = absurd (omega arith)
+    late x (y ∷ b) h = inl (h .1 .0)
+
+    cross : (a b : List ℕ) → List·Memᴰ a (map (λ (l : List ℕ). t ∷ l) (combos k (suc t) n)) → List·Memᴰ b (combos (suc k) (suc t) n) → Before a b
+    cross a b p q = let o = Memᴰ·of-map (λ (l : List ℕ). t ∷ l) (combos k (suc t) n) p in rw (← o .2) (late (o .0) b (combos-only (suc k) (suc t) n b q))
+
+-- ---- the connected ones among them
+pub below-all : (q : Query) (X : ℕ) → Connected q X → X < 2 ^ tableCount q
+below-all q X c = lt-of-holds (tableCount q) X (λ t h. c .known t h .to-count)
+
+pub rows-all : (q : Query) (X : ℕ) → Connected q X → List·Memᴰ X (rowsOf q (size X))
+unfolding rowsOf sequences tables
+rows-all q X c = Memᴰ·cast (sym back) (Memᴰ·map number (keep-in (λ (s : List ℕ). isYes (connected? q (number s))) s (combos (size X) 1 N) there (rw back (true-yes (connected? q X) c))))
+  where
+    N : ℕ
+    N = tableCount q
+
+    s : List ℕ
+    s = tables N X
+
+    back : number s ≡ X
+    back = tables-back N X (below-all q X c)
+
+    there : List·Memᴰ s (combos (size X) 1 N)
+    there = combos-all (size X) 1 N s (tables-size 1 N X (below-all q X c)) (tables-ascending 1 N X)
+
+pub rows-only : (q : Query) (k X : ℕ) → List·Memᴰ X (rowsOf q k) → Connected q X × (size X ≡ k)
+unfolding rowsOf sequences tables
+rows-only q k X m = (rw (o .2) at c, ap size (sym (o .2)) ∙ sym (tables-size 1 N (number s) (below-all q (number s) c)) ∙ ap length (number-back N s (r .1)) ∙ r .0)
+  where
+    N : ℕ
+    N = tableCount q
+
+    o : (s : List ℕ) × List·Memᴰ s (keep (λ (s : List ℕ). isYes (connected? q (number s))) (combos k 1 N)) × (number s ≡ X)
+    o = Memᴰ·of-map number (keep (λ (s : List ℕ). isYes (connected? q (number s))) (combos k 1 N)) m
+
+    s : List ℕ
+    s = o .0
+
+    i : List·Memᴰ s (combos k 1 N) × (isYes (connected? q (number s)) ≡ true)
+    i = keep-of (λ (s : List ℕ). isYes (connected? q (number s))) s (combos k 1 N) (o .1)
+
+    c : Connected q (number s)
+    c = yes-true (connected? q (number s)) (i .1)
+
+    r : (length s ≡ k) × Ascending 1 (1 + N) s
+    r = combos-only k 1 N s (i .0)
+
+-- a connected set has at most N tables
+pub size-count : (q : Query) (X : ℕ) → Connected q X → size X ≤ tableCount q
+size-count q X c = size-le (tableCount q) X (below-all q X c)
+
+-- ---- in order, each once
+keep-ordered : (f : List ℕ → Bool) (ss : List (List ℕ)) → Ordered ss → Ordered (keep f ss)
+unfolding Ordered keep
+keep-ordered f [] o = tt
+keep-ordered f (s ∷ ss) o = go (keep-ordered f ss (o .1)) (true-or-false (f s))
+  where
+    go : Ordered (keep f ss) → (f s ≡ true) ⊎ (f s ≡ false) → Ordered (cond (f s) (s ∷ keep f ss) (keep f ss))
+    go ih (inl e) = rw e (λ s′ m. o .0 s′ (keep-of f s′ ss m .0), ih)
+    go ih (inr e) = rw e ih
+
+pub sequences-ordered : (q : Query) (k : ℕ) → Ordered (sequences q k)
+unfolding sequences
+sequences-ordered q k = keep-ordered (λ (s : List ℕ). isYes (connected? q (number s))) (combos k 1 (tableCount q)) (combos-ordered k 1 (tableCount q))
+
+same-back : (n : ℕ) (ss : List (List ℕ)) → ((s : List ℕ) → List·Memᴰ s ss → tables n (number s) ≡ s) → map (tables n) (map number ss) ≡ ss
+same-back n [] h = refl
+same-back n (s ∷ ss) h = ap₂ (λ (x : List ℕ) (xs : List (List ℕ)). x ∷ xs) (h s (List·Memᴰ·head refl)) (same-back n ss (λ s′ m. h s′ (List·Memᴰ·tail m)))
+
+-- the ascending sequence of a row's set is the sequence that it was made of
+pub rows-tables : (q : Query) (k : ℕ) → map (tables (tableCount q)) (rowsOf q k) ≡ sequences q k
+unfolding rowsOf sequences
+rows-tables q k = same-back N (keep f (combos k 1 N)) (λ s m. number-back N s (combos-only k 1 N s (keep-of f s (combos k 1 N) m .0) .1))
+  where
+    N : ℕ
+    N = tableCount q
+
+    f : List ℕ → Bool
+    f s = isYes (connected? q (number s))
+
+-- STRICTLY ASCENDING: each row of a size stands before all later ones, by the sequences of table numbers
+pub rows-ordered : (q : Query) (k : ℕ) → Ordered (map (tables (tableCount q)) (rowsOf q k))
+rows-ordered q k = rw (rows-tables q k) (sequences-ordered q k)
+
+-- nothing stands before itself
+pub before-irrefl : (s : List ℕ) → Before s s → ⊥
+unfolding Before
+before-irrefl [] b = b
+before-irrefl (x ∷ s) (inl l) = omega arith
+before-irrefl (x ∷ s) (inr b) = before-irrefl s (b .1)
+
+ordered-once : (n : ℕ) (xs : List ℕ) → Ordered (map (tables n) xs) → Once xs
+unfolding Ordered Once
+ordered-once n [] o = tt
+ordered-once n (x ∷ xs) o = (λ m. before-irrefl (tables n x) (o .0 (tables n x) (Memᴰ·map (tables n) m)), ordered-once n xs (o .1))
+
+pub rows-once : (q : Query) (k : ℕ) → Once (rowsOf q k)
+rows-once q k = ordered-once (tableCount q) (rowsOf q k) (rows-ordered q k)
+
+-- ---- all sizes
+-- EVERY CONNECTED SET has a memo row
+pub memo-all : (q : Query) (S : ℕ) → Connected q S → List·Memᴰ S (memo q)
+unfolding memo
+memo-all q S c = in-row (rowsOf q) S 1 (tableCount q) (size S) (size-pos S (c .some)) (omega (arith, size-count q S c)) (rows-all q S c)
+
+-- NOTHING ELSE has one
+pub memo-only : (q : Query) (S : ℕ) → List·Memᴰ S (memo q) → Connected q S
+unfolding memo
+memo-only q S m = let r = of-row (rowsOf q) S 1 (tableCount q) m in rows-only q (r .0) S (r .3) .0
+
+-- and each has ONE
+pub memo-once : (q : Query) → Once (memo q)
+unfolding memo
+memo-once q = once-row (rowsOf q) (rows-once q) (λ j k S a b. sym (rows-only q j S a .1) ∙ rows-only q k S b .1) 1 (tableCount q)

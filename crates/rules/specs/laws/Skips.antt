@@ -1,0 +1,97 @@
+-- Skip tables hold the least later row that lacks the table; a jump passes only rows that overlap; how many cells there are.
+use mathlib.Core.Path.{_≡_, refl, sym, ap, _∙_}
+use mathlib.Core.Logic.{_⊎_, inl, inr}
+use mathlib.Core.Bool.{Bool, true, false, cond}
+use mathlib.Core.List.{List, [], _∷_, _++_, map, List·Memᴰ, List·Memᴰ·head, List·Memᴰ·tail}
+use Prim.Native.Nat.{ℕ, zero, suc, _+_, _-_, _≤_, _<_, _^_}
+use native.Mathlib.Decide.{decLt, ℕ-discrete}
+use native.Mathlib.Omega.{arith}
+use lib.Dec.{eqb}
+use lib.ListN.{length, getD, drop, length-append}
+use lib.Seq.{drop-cons, drop-length}
+use borrow.Author.Tests.{eqb-true, eqb-false}
+use Rattle.rules.specs.Lists.{inRow}
+use Rattle.rules.specs.Sets.{holds, Disjoint, size, tables}
+use Rattle.rules.specs.Query.{Query, tableCount}
+use Rattle.rules.specs.Rows.{rowsOf, memo}
+use Rattle.rules.specs.Skips.{row, Skip, skipFrom, vectorsFrom, vectors, skips}
+use Rattle.rules.specs.laws.Bools.{true-or-false}
+use Rattle.rules.specs.laws.Lists.{length-map, sum, sum-append}
+use Rattle.rules.specs.laws.Sets.{holds-apart}
+use Rattle.rules.specs.laws.Tables.{tables-size}
+use Rattle.rules.specs.laws.Rows.{rows-only, below-all}
+
+-- the value that a vector holds is THE LEAST LATER ROW THAT LACKS THE TABLE
+pub skip-right : (rows : List ℕ) (t n i : ℕ) → i + n ≡ length rows → Skip rows i t (skipFrom t (suc i) (drop i rows))
+unfolding skipFrom
+skip-right rows t zero i e =
+    let f : i ≡ length rows = omega arith in
+    rw (f, drop-length) (record { after = omega arith; inside = omega arith; passed = λ j l u. absurd (omega arith); lacks = λ l h. omega arith })
+skip-right rows t (suc n) i e = rw (drop-cons rows i 0 l) (go (skip-right rows t n (suc i) (omega arith)) (true-or-false (eqb (holds (getD rows i 0) t) 1)))
+  where
+    l : i < length rows
+    l = omega arith
+
+    go : Skip rows (suc i) t (skipFrom t (suc (suc i)) (drop (suc i) rows)) → (eqb (holds (getD rows i 0) t) 1 ≡ true) ⊎ (eqb (holds (getD rows i 0) t) 1 ≡ false)
+        → Skip rows i t (cond (eqb (holds (getD rows i 0) t) 1) (skipFrom t (suc (suc i)) (drop (suc i) rows)) (suc i))
+    go ih (inl h) = rw h (record { after = omega (arith, ih .after); inside = ih .inside; passed = λ j a b. last j a b (ℕ-discrete j (suc i)); lacks = ih .lacks })
+      where
+        last : (j : ℕ) → i < j → j < skipFrom t (suc (suc i)) (drop (suc i) rows) → Dec (j ≡ suc i) → holds (row rows j) t ≡ 1
+        last j a b (yes p) = rw p (eqb-true (holds (getD rows i 0) t) 1 h)
+        last j a b (no g) = ih .passed j (omega arith) b
+    go ih (inr h) = rw h (record { after = omega arith; inside = omega arith; passed = λ j a b. absurd (omega arith); lacks = λ a. eqb-false (holds (getD rows i 0) t) 1 h })
+
+pub skip-unique : {rows : List ℕ} {i t k k′ : ℕ} → Skip rows i t k → Skip rows i t k′ → k ≡ k′
+skip-unique {rows} {i} {t} {k} {k′} a b = go (decLt k k′) (decLt k′ k)
+  where
+    go : Dec (k < k′) → Dec (k′ < k) → k ≡ k′
+    go (yes l) d = absurd (a .lacks (omega (arith, b .inside)) (b .passed k (a .after) l))
+    go (no g) (yes l) = absurd (b .lacks (omega (arith, a .inside)) (a .passed k′ (b .after) l))
+    go (no g) (no h) = omega arith
+
+-- A JUMP PASSES ONLY OVERLAPPING ROWS: row i shares table t with D, and so do all that its skip value for t passes
+pub skip-overlaps : {rows : List ℕ} {i t k : ℕ} (D : ℕ) → Skip rows i t k → holds D t ≡ 1 → holds (row rows i) t ≡ 1 → (j : ℕ) → i ≤ j → j < k → Disjoint D (row rows j) → ⊥
+skip-overlaps {rows} {i} {t} {k} D s hd hi j l u d = go (decLt i j)
+  where
+    both : holds (row rows j) t ≡ 1 → ⊥
+    both hj = omega (arith, holds-apart D (row rows j) t d)
+
+    go : Dec (i < j) → ⊥
+    go (yes a) = both (s .passed j a u)
+    go (no g) = let e : i ≡ j = omega arith in both (rw e at hi)
+
+-- ---- "the sum of those sets' sizes"
+vectors-length : (n i : ℕ) (rows : List ℕ) → ((S : ℕ) → List·Memᴰ S rows → S < 2 ^ n) → length (vectorsFrom n i rows) ≡ sum (map size rows)
+unfolding vectorsFrom sum tables
+vectors-length n i [] h = refl
+vectors-length n i (S ∷ rest) h =
+    let v : List ℕ = map (λ (t : ℕ). skipFrom t (suc i) rest) (tables n S) in
+    omega (
+      arith,
+      length-append v (vectorsFrom n (suc i) rest),
+      length-map (λ (t : ℕ). skipFrom t (suc i) rest) (tables n S),
+      tables-size 1 n S (h S (List·Memᴰ·head refl)),
+      vectors-length n (suc i) rest (λ X m. h X (List·Memᴰ·tail m)),
+    )
+
+map-over : (xs ys : List ℕ) → map size (xs ++ ys) ≡ map size xs ++ map size ys
+map-over [] ys = refl
+map-over (x ∷ xs) ys = ap (λ (l : List ℕ). size x ∷ l) (map-over xs ys)
+
+cells-from : (q : Query) (k n : ℕ) → length (inRow (vectors q) k n) ≡ sum (map size (inRow (rowsOf q) k n))
+unfolding inRow vectors sum
+cells-from q k zero = refl
+cells-from q k (suc n) =
+    length-append (vectorsFrom (tableCount q) 1 (rowsOf q k)) (inRow (vectors q) (suc k) n)
+    ∙ omega (
+      arith,
+      vectors-length (tableCount q) 1 (rowsOf q k) (λ S m. below-all q S (rows-only q k S m .0)),
+      cells-from q (suc k) n,
+      ap sum (map-over (rowsOf q k) (inRow (rowsOf q) (suc k) n)),
+      sum-append (map size (rowsOf q k)) (map size (inRow (rowsOf q) (suc k) n)),
+    )
+
+-- the skip cells of a query are as many as its connected sets have tables
+pub cells-sizes : (q : Query) → length (skips q) ≡ sum (map size (memo q))
+unfolding skips memo
+cells-sizes q = cells-from q 1 (tableCount q)
