@@ -2,10 +2,10 @@
 use mathlib.Core.Bool.{Bool, cond, _&&_}
 use mathlib.Core.List.{List, [], _∷_, _++_}
 use Prim.Native.Nat.{ℕ, zero, suc, _+_, _-_, _/_}
-use lib.Bits.{bitAnd}
 use lib.Dec.{eqb}
 use lib.ListN.{length}
 use Rattle.rules.specs.Lists.{isYes, inRow}
+use Rattle.rules.specs.Sets.{disjoint}
 use Rattle.rules.specs.Query.{Query}
 use Rattle.rules.specs.Rows.{rowsOf}
 use Rattle.rules.specs.laws.Decide.{between?}
@@ -51,4 +51,4 @@ candidates q s = candidatesOf (rowsOf q) s
 
 -- "A candidate is joinable if the sets are disjoint and an edge runs between them."
 unfoldable pub joinable : Query → Candidate → Bool
-joinable q c = eqb (bitAnd (c .driving) (c .inner)) 0 && isYes (between? q (c .driving) (c .inner))
+joinable q c = disjoint (c .driving) (c .inner) && isYes (between? q (c .driving) (c .inner))

@@ -4,7 +4,7 @@ use Prim.Native.Nat.{ℕ, zero, suc, _-_, _*_, _/_, min, max}
 use lib.Dec.{eqb}
 use lib.ListN.{getD}
 use Rattle.rules.specs.Limits.{maxEstimate}
-use Rattle.rules.specs.Sets.{holds}
+use Rattle.rules.specs.Sets.{has}
 use Rattle.rules.specs.Query.{Query, tableCount, edgeCount, at}
 
 -- edge i joins tables u and t, "whichever way round it is written"
@@ -23,7 +23,7 @@ byEdges q u t (suc n) r = cond (joinsAt q u t n) (divided (getD (q .divisors) n 
 -- "for each lower table of the set that has an edge to it, ascending": r after the tables 1 to k of S
 unfoldable pub byLower : Query → ℕ → ℕ → ℕ → ℕ → ℕ
 byLower q S t zero r = r
-byLower q S t (suc k) r = cond (eqb (holds S (suc k)) 1) (byEdges q (suc k) t (edgeCount q) (byLower q S t k r)) (byLower q S t k r)
+byLower q S t (suc k) r = cond (has S (suc k)) (byEdges q (suc k) t (edgeCount q) (byLower q S t k r)) (byLower q S t k r)
 
 -- one table's part: "multiply by its rows (0 counts as 1)", the divisions, "Then cut to 1,000,000,000,000 if larger"
 unfoldable pub withTable : Query → ℕ → ℕ → ℕ → ℕ
@@ -32,7 +32,7 @@ withTable q S t r = min maxEstimate (byLower q S t (t - 1) (r * max 1 (at (q .ro
 -- "Take its tables in ascending number. Start at 1.": the value after the tables 1 to k of S
 unfoldable pub running : Query → ℕ → ℕ → ℕ
 running q S zero = 1
-running q S (suc k) = cond (eqb (holds S (suc k)) 1) (withTable q S (suc k) (running q S k)) (running q S k)
+running q S (suc k) = cond (has S (suc k)) (withTable q S (suc k) (running q S k)) (running q S k)
 
 -- "Estimate of a set"
 unfoldable pub estimate : Query → ℕ → ℕ

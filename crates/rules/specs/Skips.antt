@@ -3,10 +3,9 @@ use mathlib.Core.Path.{_≡_}
 use mathlib.Core.Bool.{cond}
 use mathlib.Core.List.{List, [], _∷_, _++_, map}
 use Prim.Native.Nat.{ℕ, zero, suc, _+_, _≤_, _<_}
-use lib.Dec.{eqb}
 use lib.ListN.{length, getD}
 use Rattle.rules.specs.Lists.{inRow}
-use Rattle.rules.specs.Sets.{holds, tables}
+use Rattle.rules.specs.Sets.{holds, has, tables}
 use Rattle.rules.specs.Query.{Query, tableCount}
 use Rattle.rules.specs.Rows.{rowsOf}
 
@@ -25,7 +24,7 @@ pub record Skip (rows : List ℕ) (i t k : ℕ) : Type 0 where
 -- of the rows that are left, the first of them numbered k, the first that lacks table t
 unfoldable pub skipFrom : ℕ → ℕ → List ℕ → ℕ
 skipFrom t k [] = k
-skipFrom t k (S ∷ rest) = cond (eqb (holds S t) 1) (skipFrom t (suc k) rest) k
+skipFrom t k (S ∷ rest) = cond (has S t) (skipFrom t (suc k) rest) k
 
 -- the vectors of the rows that are left, the first of them numbered i: a value for each table of its set, ascending
 unfoldable pub vectorsFrom : ℕ → ℕ → List ℕ → List ℕ

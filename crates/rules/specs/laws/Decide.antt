@@ -10,15 +10,12 @@ use lib.Dec.{eqb, ltb}
 use lib.ListN.{length, getD}
 use borrow.Author.Tests.{eqb-true, eq-eqb, ne-eqb, ltb-true, lt-ltb}
 use Rattle.rules.specs.Lists.{isYes}
-use Rattle.rules.specs.Sets.{Splits, holds, single, size}
+use Rattle.rules.specs.Sets.{Splits, holds, has, single, size}
 use Rattle.rules.specs.Query.{Query, IsTable, Between, tableCount, edgeCount}
 use Rattle.rules.specs.Connected.{Connected}
 use Rattle.rules.specs.laws.Bools.{and-true, and-true-l, and-true-r, or-cases, or-true-l, or-true-r, any, any-some, any-of, find, find-none, find-some, decideBy}
 use Rattle.rules.specs.laws.Sets.{size-pos, size-pow, splits-size, holds-some, holds-single, holds-pos, splits-inner, splits-outer, holds-minus, holds-lt, lt-of-holds}
 use Rattle.rules.specs.laws.Connected.{connected-join, connected-single, flood-done, Within, within-right}
-
-unfoldable pub has : ℕ → ℕ → Bool
-has S t = eqb (holds S t) 1
 
 -- edge i runs between X and Y
 unfoldable pub crossesIn : List ℕ → List ℕ → ℕ → ℕ → ℕ → Bool
@@ -35,7 +32,7 @@ module _ (q : Query) where
   between X Y = betweenIn (q .left) (q .right) X Y
 
   pub between-true : (X Y : ℕ) → between X Y ≡ true → Between q X Y
-  unfolding betweenIn crossesIn has
+  unfolding betweenIn crossesIn
   between-true X Y e = go (or-cases (has X l && has Y g) (has X g && has Y l) (r .2))
     where
       r : (i : ℕ) × (i < edgeCount q) × (crosses X Y i ≡ true)
@@ -64,7 +61,7 @@ module _ (q : Query) where
       }
 
   pub between-of : (X Y : ℕ) → Between q X Y → between X Y ≡ true
-  unfolding betweenIn crossesIn has
+  unfolding betweenIn crossesIn
   between-of X Y b = any-of (crosses X Y) (edgeCount q) i (b .linked .known) (go (b .linked .joins))
     where
       i : ℕ
@@ -99,7 +96,7 @@ module _ (q : Query) where
     pub closed : Between q F rest → ⊥
 
   no-onward : (S X Y : ℕ) → Splits S X Y → ((t : ℕ) → holds S t ≡ 1 → IsTable q t) → find (onward X Y) (tableCount q) ≡ 0 → Between q X Y → ⊥
-  unfolding onward Within has
+  unfolding onward Within
   no-onward S X Y p kn e b =
       let w = b .to in
       let t = kn w (within-right p w (b .to-in)) in
@@ -110,7 +107,7 @@ module _ (q : Query) where
   no-rest X Y l b = omega (arith, size-pos Y (holds-pos Y (b .to) (b .to-in)))
 
   flooded : (n S X Y : ℕ) → size Y ≤ n → Splits S X Y → ((t : ℕ) → holds S t ≡ 1 → IsTable q t) → Connected q X → Flooded S (flood n X Y)
-  unfolding flood has onward
+  unfolding flood onward
   flooded zero S X Y l p kn c = record { rest = Y; splits = p; connected = c; closed = no-rest X Y l }
   flooded (suc n) S X Y l p kn c = go (decLt 0 v) (λ l₁ p₁. flooded n S (X + single v) (Y - single v) l₁ p₁ kn)
     where
@@ -140,7 +137,7 @@ module _ (q : Query) where
     start = find (has S) (tableCount q)
 
     start-in : holds S start ≡ 1
-    unfolding start has
+    unfolding start
     start-in = go (decLt 0 start)
       where
         go : Dec (0 < start) → holds S start ≡ 1
@@ -188,10 +185,10 @@ module _ (q : Query) where
 
 -- whether an edge runs between two sets
 unfoldable pub between? : (q : Query) (X Y : ℕ) → Dec (Between q X Y)
-unfolding decideBy betweenIn crossesIn has any
+unfolding decideBy betweenIn crossesIn any
 between? q X Y = decideBy (between q X Y) (between-true q X Y) (between-of q X Y)
 
 -- whether a set is connected
 unfoldable pub connected? : (q : Query) (S : ℕ) → Dec (Connected q S)
-unfolding decideBy connects flood find onward betweenIn crossesIn has any
+unfolding decideBy connects flood find onward betweenIn crossesIn any
 connected? q S = decideBy (connects q S) (connects-true q S) (connects-of q S)

@@ -30,7 +30,7 @@ use Rattle.rules.specs.Refusals.{Memory, Input, Verdict, refuse, firstBa
 use Rattle.rules.specs.Checked.{Accepted}
 use Rattle.rules.specs.Answers.{Answer, Outcome, each, perWorker, refusal, Refused, Spared, Row, Filled, InTurn, shown, upTo, Logged, Counted, Given, Planned}
 use Rattle.rules.specs.laws.Bools.{find}
-use Rattle.rules.specs.laws.Decide.{has, between?, connected?}
+use Rattle.rules.specs.laws.Decide.{between?, connected?}
 use Rattle.rules.specs.laws.Lists.{at-in, at-map, length-map, over-length, over-spare, over-at}
 use Rattle.rules.specs.laws.Rows.{memo-only, size-count}
 use Rattle.rules.specs.laws.Choice.{Choice}
@@ -112,7 +112,7 @@ unfolding outcome planWith refusedOf planOf standing handsOf bestAt rowAt each
     withRow across within driven candidatesOf candidates joinable
     numbered cut inCut owns met share queue only sizes-exist
     refuse firstBad firstOf allLong allSame groups badTable badMethod joinedBelow repeats edgeOr badEdge isRefused badTurn checks rooms verdict
-    connected? between? find has
+    connected? between? find
     sooner better bestOf byMethod splitsAt offersBelow pickOf scanRow rowOf offersOf offersFor
 computed i = outcome i
 

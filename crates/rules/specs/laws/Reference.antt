@@ -11,7 +11,7 @@ use lib.Dec.{eqb, ltb, leb}
 use lib.Bits.{bitAnd}
 use borrow.Author.Tests.{eqb-true, eqb-false, eq-eqb, ltb-true, ltb-false, leb-true, leb-false, lt-leb}
 use Rattle.rules.specs.Lists.{isYes}
-use Rattle.rules.specs.Sets.{size, single, holds}
+use Rattle.rules.specs.Sets.{size, single, holds, has}
 use Rattle.rules.specs.Query.{Query, IsMethod, tableCount, methodCount, at}
 use Rattle.rules.specs.Connected.{Connected}
 use Rattle.rules.specs.Trees.{price, Least, Pick}
@@ -19,7 +19,7 @@ use Rattle.rules.specs.Log.{Pair, union}
 use Rattle.rules.specs.laws.Bools.{true-or-false, and-true-l, and-true-r, yes-true, true-yes, find, find-some, find-none}
 use Rattle.rules.specs.laws.Sets.{holds-single, holds-single-only}
 use Rattle.rules.specs.laws.Connected.{connected-single, connected-split, one-table}
-use Rattle.rules.specs.laws.Decide.{has, connected?, between?}
+use Rattle.rules.specs.laws.Decide.{connected?, between?}
 use Rattle.rules.specs.laws.Choice.{Choice, NoLater, Best, no-later-trans, no-later-refl, best-same, same}
 use Rattle.rules.specs.laws.Bellman.{Offer, bellman-least, bellman-pick}
 use Rattle.rules.specs.laws.Handed.{Priced, Offers, Handed}
@@ -211,7 +211,7 @@ module _ (q : Query) where
 
   module _ (me : IsMethod q 1) where
     scan-least : (S : ℕ) → size S ≤ 1 → Connected q S → Least q S (scanRow S .cost)
-    unfolding scanRow has
+    unfolding scanRow
     scan-least S l c =
         let o = one-table q me S l c in
         let e : find (has S) (tableCount q) ≡ o .0 = found (decLt 0 (find (has S) (tableCount q))) in
