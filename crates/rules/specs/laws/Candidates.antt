@@ -1,14 +1,14 @@
 -- The candidates of a size: every two rows whose sizes make it are met, one way round, and nothing else is.
-use mathlib.Core.Path.{_≡_, refl, sym, ap, _∙_}
+use mathlib.Core.Path.{_≡_, refl, sym, ap, _∙_, subst}
 use mathlib.Core.Logic.{_⊎_, inl, inr, ⊎-elim}
 use mathlib.Core.Bool.{Bool, true, false, cond}
-use mathlib.Core.List.{List, [], _∷_, _++_, List·Memᴰ, List·Memᴰ·head, List·Memᴰ·tail, List·Memᴰ·cases-cons, List·Memᴰ·append-cases, Memᴰ·append-left, Memᴰ·append-right, List·Memᴰ·not-nil}
+use mathlib.Core.List.{List, [], _∷_, _++_, List·Memᴰ, List·Memᴰ·head, List·Memᴰ·tail, List·Memᴰ·cases-cons, List·Memᴰ·append-cases, Memᴰ·append-left, Memᴰ·append-right, List·Memᴰ·not-nil, Memᴰ·cast}
 use Prim.Native.Nat.{ℕ, zero, suc, _+_, _-_, _/_, _≤_, _<_}
 use native.Mathlib.Decide.{decLt}
 use native.Mathlib.Omega.{arith}
 use lib.Dec.{eqb}
 use lib.ListN.{length}
-use borrow.Author.Tests.{eqb-true, eq-eqb, ne-eqb}
+use borrow.Author.Tests.{eqb-true, eqb-false, eq-eqb, ne-eqb}
 use Rattle.rules.specs.Lists.{inRow}
 use Rattle.rules.specs.Candidates.{Candidate, withRow, across, within, driven, candidatesOf}
 use Rattle.rules.specs.Shares.{Numbered, numbered}
@@ -77,18 +77,18 @@ pub record Behind (xs ys : List ℕ) (c : Candidate) : Type 0 where
   pub inner : List·Memᴰ (c .inner) ys
   pub row : c .row < c .rows
 
-pub record Row-of (D i X : ℕ) (ys : List ℕ) (c : Candidate) : Type 0 where
+pub record RowOf (D i X : ℕ) (ys : List ℕ) (c : Candidate) : Type 0 where
   pub driving : c .driving ≡ X
   pub inner : List·Memᴰ (c .inner) ys
   pub row : c .row ≡ i
   pub rows : c .rows ≡ D
 
-row-of : (D i X j : ℕ) (ys : List ℕ) (c : Candidate) → List·Memᴰ c (withRow D i X j ys) → Row-of D i X ys c
+row-of : (D i X j : ℕ) (ys : List ℕ) (c : Candidate) → List·Memᴰ c (withRow D i X j ys) → RowOf D i X ys c
 unfolding withRow
 row-of D i X j [] c m = absurd (List·Memᴰ·not-nil m)
 row-of D i X j (y ∷ ys) c m = go (row-of D i X (suc j) ys c) (List·Memᴰ·cases-cons m)
   where
-    go : (List·Memᴰ c (withRow D i X (suc j) ys) → Row-of D i X ys c) → (c ≡ record { rows = D; row = i; count = j; driving = X; inner = y }) ⊎ List·Memᴰ c (withRow D i X (suc j) ys) → Row-of D i X (y ∷ ys) c
+    go : (List·Memᴰ c (withRow D i X (suc j) ys) → RowOf D i X ys c) → (c ≡ record { rows = D; row = i; count = j; driving = X; inner = y }) ⊎ List·Memᴰ c (withRow D i X (suc j) ys) → RowOf D i X (y ∷ ys) c
     go ih (inl e) = record { driving = ap (λ (k : Candidate). k .driving) e; inner = List·Memᴰ·head (ap (λ (k : Candidate). k .inner) e); row = ap (λ (k : Candidate). k .row) e; rows = ap (λ (k : Candidate). k .rows) e }
     go ih (inr n) = let r = ih n in record { driving = r .driving; inner = List·Memᴰ·tail (r .inner); row = r .row; rows = r .rows }
 
@@ -118,9 +118,9 @@ module _ (rows : ℕ → List ℕ) (s : ℕ) where
     pub to-half : size ≤ s / 2
     pub behind : Behind (rows size) (rows (s - size)) c
 
-  driven-of : (d : ℕ) (c : Candidate) → 1 ≤ d → d ≤ s / 2 → List·Memᴰ c (driven rows s d) → Met c
+  behind-of : (d : ℕ) (c : Candidate) → 1 ≤ d → d ≤ s / 2 → List·Memᴰ c (driven rows s d) → Behind (rows d) (rows (s - d)) c
   unfolding driven
-  driven-of d c l u m = record { size = d; from-one = l; to-half = u; behind = go (true-or-false (eqb (d + d) s)) m }
+  behind-of d c l u m = go (true-or-false (eqb (d + d) s)) m
     where
       go : (eqb (d + d) s ≡ true) ⊎ (eqb (d + d) s ≡ false) → List·Memᴰ c (cond (eqb (d + d) s) (within (length (rows d)) 0 (rows d)) (across (length (rows d)) 0 (rows d) (rows (s - d))))
           → Behind (rows d) (rows (s - d)) c
@@ -131,7 +131,7 @@ module _ (rows : ℕ → List ℕ) (s : ℕ) where
 
   pub met-of : (c : Candidate) → List·Memᴰ c (candidatesOf rows s) → Met c
   unfolding candidatesOf
-  met-of c m = let r = of-row (driven rows s) c 1 (s / 2) m in driven-of (r .0) c (r .1) (omega (arith, r .2)) (r .3)
+  met-of c m = let r = of-row (driven rows s) c 1 (s / 2) m in record { size = r .0; from-one = r .1; to-half = omega (arith, r .2); behind = behind-of (r .0) c (r .1) (omega (arith, r .2)) (r .3) }
 
 -- ---- candidates with their numbers
 pub numbered-in : (n : ℕ) (cs : List Candidate) (c : Candidate) → List·Memᴰ c cs → (x : Numbered) × List·Memᴰ x (numbered n cs) × (x .candidate ≡ c)
@@ -159,3 +159,92 @@ pub numbered-once : (n : ℕ) (cs : List Candidate) → Once (numbered n cs)
 unfolding numbered Once
 numbered-once n [] = tt
 numbered-once n (c ∷ cs) = (λ m. omega (arith, numbered-of (suc n) cs (record { number = n; candidate = c }) m .1), numbered-once (suc n) cs)
+
+-- ---- each pair of sets is met one way round, once
+abbrev pub SameSets : Candidate → Candidate → Type 0
+SameSets c c′ = ((c .driving ≡ c′ .driving) × (c .inner ≡ c′ .inner)) ⊎ ((c .driving ≡ c′ .inner) × (c .inner ≡ c′ .driving))
+
+unfoldable pub Apart : List Candidate → Type 0
+Apart [] = Unit {0}
+Apart (c ∷ cs) = ((c′ : Candidate) → List·Memᴰ c′ cs → SameSets c c′ → ⊥) × Apart cs
+
+same-sym : (c c′ : Candidate) → SameSets c c′ → SameSets c′ c
+same-sym c c′ (inl e) = inl (sym (e .0), sym (e .1))
+same-sym c c′ (inr e) = inr (sym (e .1), sym (e .0))
+
+apart-append : (xs ys : List Candidate) → Apart xs → Apart ys → ((x y : Candidate) → List·Memᴰ x xs → List·Memᴰ y ys → SameSets x y → ⊥) → Apart (xs ++ ys)
+unfolding Apart
+apart-append [] ys p q n = q
+apart-append (x ∷ xs) ys p q n = (λ c m s. ⊎-elim (λ a. p .0 c a s) (λ b. n x c (List·Memᴰ·head refl) b s) (List·Memᴰ·append-cases xs m), apart-append xs ys (p .1) q (λ a b i j. n a b (List·Memᴰ·tail i) j))
+
+row-apart : (D i X j : ℕ) (ys : List ℕ) → Once ys → (List·Memᴰ X ys → ⊥) → Apart (withRow D i X j ys)
+unfolding Apart withRow Once
+row-apart D i X j [] o n = tt
+row-apart D i X j (Y ∷ ys) o n = (differ, row-apart D i X (suc j) ys (o .1) (λ m. n (List·Memᴰ·tail m)))
+  where
+    differ : (c : Candidate) → List·Memᴰ c (withRow D i X (suc j) ys) → SameSets (record { rows = D; row = i; count = j; driving = X; inner = Y }) c → ⊥
+    differ c m (inl e) = o .0 (Memᴰ·cast (e .1) (row-of D i X (suc j) ys c m .inner))
+    differ c m (inr e) = n (List·Memᴰ·tail (Memᴰ·cast (e .0) (row-of D i X (suc j) ys c m .inner)))
+
+across-apart : (D i : ℕ) (xs ys : List ℕ) → i + length xs ≡ D → Once xs → Once ys → ((Z : ℕ) → List·Memᴰ Z xs → List·Memᴰ Z ys → ⊥) → Apart (across D i xs ys)
+unfolding Apart across Once
+across-apart D i [] ys e ox oy n = tt
+across-apart D i (X ∷ xs) ys e ox oy n =
+    apart-append (withRow D i X 0 ys) (across D (suc i) xs ys) (row-apart D i X 0 ys oy (n X (List·Memᴰ·head refl))) (across-apart D (suc i) xs ys (omega arith) (ox .1) oy (λ Z m. n Z (List·Memᴰ·tail m))) cross
+  where
+    cross : (c c′ : Candidate) → List·Memᴰ c (withRow D i X 0 ys) → List·Memᴰ c′ (across D (suc i) xs ys) → SameSets c c′ → ⊥
+    cross c c′ m m′ (inl s) = ox .0 (Memᴰ·cast (sym (row-of D i X 0 ys c m .driving) ∙ s .0) (across-of D (suc i) xs ys c′ (omega arith) m′ .driving))
+    cross c c′ m m′ (inr s) = n X (List·Memᴰ·head refl) (Memᴰ·cast (sym (row-of D i X 0 ys c m .driving) ∙ s .0) (across-of D (suc i) xs ys c′ (omega arith) m′ .inner))
+
+within-apart : (D i : ℕ) (xs : List ℕ) → i + length xs ≡ D → Once xs → Apart (within D i xs)
+unfolding Apart within Once
+within-apart D i [] e o = tt
+within-apart D i (X ∷ xs) e o = apart-append (withRow D i X 0 xs) (within D (suc i) xs) (row-apart D i X 0 xs (o .1) (o .0)) (within-apart D (suc i) xs (omega arith) (o .1)) cross
+  where
+    cross : (c c′ : Candidate) → List·Memᴰ c (withRow D i X 0 xs) → List·Memᴰ c′ (within D (suc i) xs) → SameSets c c′ → ⊥
+    cross c c′ m m′ (inl s) = o .0 (Memᴰ·cast (sym (row-of D i X 0 xs c m .driving) ∙ s .0) (within-of D (suc i) xs c′ (omega arith) m′ .driving))
+    cross c c′ m m′ (inr s) = o .0 (Memᴰ·cast (sym (row-of D i X 0 xs c m .driving) ∙ s .0) (within-of D (suc i) xs c′ (omega arith) m′ .inner))
+
+-- where each size's rows stand once and no set has two sizes
+module _ (rows : ℕ → List ℕ) (s : ℕ) (once : (k : ℕ) → Once (rows k)) (one : (j k Z : ℕ) → List·Memᴰ Z (rows j) → List·Memᴰ Z (rows k) → j ≡ k) where
+  driven-apart : (d : ℕ) → 1 ≤ d → d ≤ s / 2 → Apart (driven rows s d)
+  unfolding driven
+  driven-apart d l u = go (true-or-false (eqb (d + d) s))
+    where
+      go : (eqb (d + d) s ≡ true) ⊎ (eqb (d + d) s ≡ false) → Apart (cond (eqb (d + d) s) (within (length (rows d)) 0 (rows d)) (across (length (rows d)) 0 (rows d) (rows (s - d))))
+      go (inl e) = rw e (within-apart (length (rows d)) 0 (rows d) (omega arith) (once d))
+      go (inr e) = rw e (across-apart (length (rows d)) 0 (rows d) (rows (s - d)) (omega arith) (once d) (once (s - d))
+          (λ Z a b. eqb-false (d + d) s e (let f : d ≡ s - d = one d (s - d) Z a b in omega arith)))
+
+  -- a later driving size meets other pairs
+  later : (d e : ℕ) (c c′ : Candidate) → 1 ≤ d → d < e → e ≤ s / 2 → List·Memᴰ c (driven rows s d) → List·Memᴰ c′ (driven rows s e) → SameSets c c′ → ⊥
+  later d e c c′ l u v m m′ p = differ p
+    where
+      b : Behind (rows d) (rows (s - d)) c
+      b = behind-of rows s d c l (omega arith) m
+
+      b′ : Behind (rows e) (rows (s - e)) c′
+      b′ = behind-of rows s e c′ (omega arith) v m′
+
+      differ : SameSets c c′ → ⊥
+      differ (inl z) = let f : d ≡ e = one d e (c .driving) (b .driving) (Memᴰ·cast (z .0) (b′ .driving)) in omega arith
+      differ (inr z) = let f : d ≡ s - e = one d (s - e) (c .driving) (b .driving) (Memᴰ·cast (z .0) (b′ .inner)) in omega arith
+
+  from-apart : (d n : ℕ) → 1 ≤ d → d + n ≤ s / 2 + 1 → Apart (inRow (driven rows s) d n)
+  unfolding inRow Apart
+  from-apart d zero l u = tt
+  from-apart d (suc n) l u =
+      apart-append (driven rows s d) (inRow (driven rows s) (suc d) n) (driven-apart d l (omega arith)) (from-apart (suc d) n (omega arith) (omega arith))
+      (λ c c′ m m′ p. let r = of-row (driven rows s) c′ (suc d) n m′ in later d (r .0) c c′ l (r .1) (omega (arith, r .2)) m (r .3) p)
+
+  pub candidates-apart : Apart (candidatesOf rows s)
+  unfolding candidatesOf
+  candidates-apart = from-apart 1 (s / 2) (omega arith) (omega arith)
+
+-- so a pair of sets has one number
+pub numbered-pair : (n : ℕ) (cs : List Candidate) → Apart cs → (x y : Numbered) → List·Memᴰ x (numbered n cs) → List·Memᴰ y (numbered n cs) → SameSets (x .candidate) (y .candidate) → x ≡ y
+unfolding numbered Apart
+numbered-pair n (c ∷ cs) a x y (List·Memᴰ·head e) (List·Memᴰ·head f) p = e ∙ sym f
+numbered-pair n (c ∷ cs) a x y (List·Memᴰ·head e) (List·Memᴰ·tail m) p = absurd (a .0 (y .candidate) (numbered-of (suc n) cs y m .0) (subst (λ (z : Numbered). SameSets (z .candidate) (y .candidate)) e p))
+numbered-pair n (c ∷ cs) a x y (List·Memᴰ·tail m) (List·Memᴰ·head f) p = absurd (a .0 (x .candidate) (numbered-of (suc n) cs x m .0) (same-sym (x .candidate) c (subst (λ (z : Numbered). SameSets (x .candidate) (z .candidate)) f p)))
+numbered-pair n (c ∷ cs) a x y (List·Memᴰ·tail m) (List·Memᴰ·tail k) p = numbered-pair (suc n) cs (a .1) x y m k p

@@ -26,10 +26,10 @@ use Rattle.rules.specs.laws.Lists.{keep-both, Once}
 use Rattle.rules.specs.laws.Sets.{splits-size, size-pos, holds-apart, holds-some}
 use Rattle.rules.specs.laws.Connected.{joinable-sym}
 use Rattle.rules.specs.laws.Decide.{between?}
-use Rattle.rules.specs.laws.Rows.{rows-all, rows-only}
+use Rattle.rules.specs.laws.Rows.{rows-all, rows-only, rows-once}
 use Rattle.rules.specs.laws.Handed.{JoinablePair, Complete}
 use Rattle.rules.specs.laws.Shares.{One, owns-one}
-use Rattle.rules.specs.laws.Candidates.{Has, candidates-all, Met, met-of, numbered-in, numbered-of, numbered-length, numbered-once}
+use Rattle.rules.specs.laws.Candidates.{Has, candidates-all, Met, met-of, numbered-in, numbered-of, numbered-length, numbered-once, SameSets, candidates-apart, numbered-pair}
 use Rattle.rules.specs.laws.Turns.{Entries, Below, run-below, run-queues}
 use Rattle.rules.specs.laws.Hands.{HandedBy, run-all, run-only, run-once}
 
@@ -46,6 +46,12 @@ unfolding joinable
 true-joinable q c j =
     and-true (eqb (bitAnd (c .driving) (c .inner)) 0) (isYes (between? q (c .driving) (c .inner))) (eq-eqb (bitAnd (c .driving) (c .inner)) 0 (j .apart))
     (true-yes (between? q (c .driving) (c .inner)) (j .between))
+
+-- a pair of sets is met ONE WAY ROUND, ONCE
+pub pair-once : (q : Query) (s : ℕ) (x y : Numbered) → List·Memᴰ x (met q s) → List·Memᴰ y (met q s) → SameSets (x .candidate) (y .candidate) → x ≡ y
+unfolding met candidates
+pair-once q s x y m n p =
+    numbered-pair 0 (candidates q s) (candidates-apart (rowsOf q) s (rows-once q) (λ j k Z a b. sym (rows-only q j Z a .1) ∙ rows-only q k Z b .1)) x y m n p
 
 -- ---- the turns of result size s
 module _ (q : Query) (scheme : Scheme) (m s : ℕ) where
