@@ -109,8 +109,6 @@ pub record Cases : Type 0 where
   -- "C2 the full set ties at 3485, by method 2, from outers {1}, {1,2}, {3} and {2,3}; outer {1} wins": outer set, method and cost of all its joins of best parts
   pub C2 : map (λ (k : Choice). k .outer ∷ k .method ∷ k .cost ∷ []) (offersBelow example (bestAt example) 7 7)
       ≡ (6 ∷ 2 ∷ 3485 ∷ []) ∷ (6 ∷ 1 ∷ 3540 ∷ []) ∷ (4 ∷ 2 ∷ 3485 ∷ []) ∷ (4 ∷ 1 ∷ 3540 ∷ []) ∷ (3 ∷ 2 ∷ 3485 ∷ []) ∷ (3 ∷ 1 ∷ 4440 ∷ []) ∷ (1 ∷ 2 ∷ 3485 ∷ []) ∷ (1 ∷ 1 ∷ 3540 ∷ []) ∷ []
-  pub C2-least : Least example 7 3485
-  pub C2-pick : Pick example 7 1 2
   -- "C3 its size-2 skip vectors: 2 3 and 3 3"
   pub C3 : vectors example 2 ≡ 2 ∷ 3 ∷ 3 ∷ 3 ∷ []
   -- "C4 for 000's figure 4 .., size 3: row 1 is 8 5 2, row 5 is 8 6 8"
@@ -141,17 +139,11 @@ pub record Cases : Type 0 where
   -- "{1,2} stands before {1,10}"
   pub numbers-not-text : Before (1 ∷ 2 ∷ []) (1 ∷ 10 ∷ [])
 
-full-row : Row example 7 3485 1 2
-unfolding computed
-full-row = outcome-planned (alone example (lend 7 11 0)) .given refl .memory .rows 5 (omega arith)
-
 pub cases : Cases
 unfolding computed Before
 cases = record {
   C1 = refl;
   C2 = refl;
-  C2-least = full-row .least;
-  C2-pick = full-row .more (omega arith);
   C3 = refl;
   C4-row1 = refl;
   C4-row5 = refl;
@@ -171,3 +163,8 @@ cases = record {
   C12-nine = refl;
   numbers-not-text = inr (refl, inl (omega arith));
 }
+
+-- C2 over all trees: no tree of the full set costs less than 3485, and outer {1} with method 2 is the pick
+pub case-2 : Least example 7 3485 × Pick example 7 1 2
+unfolding computed
+case-2 = let r : Row example 7 3485 1 2 = outcome-planned (alone example (lend 7 11 0)) .given refl .memory .rows 5 (omega arith) in (r .least, r .more (omega arith))

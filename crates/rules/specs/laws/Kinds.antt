@@ -1,20 +1,26 @@
 -- What the constructors answer, test by test; scheme numbers, there and back.
 use mathlib.Core.Path.{_≡_, refl}
 use mathlib.Core.Bool.{Bool, true, false}
-use Prim.Native.Nat.{ℕ, zero, suc}
+use Prim.Native.Nat.{ℕ, zero, suc, _≤_, _<_}
 use Rattle.rules.specs.declared.Scheme.{Scheme}
 use Rattle.rules.specs.declared.Scheme.the-variants.{CutCandidates, CutRows, DealRows, DealInner}
 use Rattle.rules.specs.declared.NewScheme.{NewScheme}
 use Rattle.rules.specs.declared.NewScheme.the-variants.{Good, Unknown}
+use Rattle.rules.specs.declared.Table.{Table}
+use Rattle.rules.specs.declared.NewTable.{NewTable}
+use Rattle.rules.specs.declared.NewTable.the-variants.{Good as GoodTable, Over as OverTable}
+use Rattle.rules.specs.declared.Method.{Method}
+use Rattle.rules.specs.declared.NewMethod.{NewMethod}
+use Rattle.rules.specs.declared.NewMethod.the-variants.{Good as GoodMethod, Over as OverMethod}
 use Rattle.rules.specs.declared.Edge.{Edge}
 use Rattle.rules.specs.declared.NewEdge.{NewEdge}
 use Rattle.rules.specs.declared.NewEdge.the-variants.{Good as GoodEdge, Outside, Itself, Divisor}
 use Rattle.rules.specs.declared.Crew.{Crew}
 use Rattle.rules.specs.declared.NewCrew.{NewCrew}
 use Rattle.rules.specs.declared.NewCrew.the-variants.{Good as GoodCrew, Refused}
-use borrow.Author.Tests.{eq-eqb, ne-eqb}
-use Rattle.rules.specs.Limits.{inRange, maxDivisor, maxWorkers}
-use Rattle.rules.specs.Kinds.{schemeOf, schemeNumber, newEdge, newCrew}
+use borrow.Author.Tests.{eq-eqb, ne-eqb, le-leb, lt-leb}
+use Rattle.rules.specs.Limits.{inRange, maxRows, maxScan, maxDivisor, maxFixed, maxCoefficient, maxWorkers}
+use Rattle.rules.specs.Kinds.{schemeOf, schemeNumber, newTable, newEdge, newMethod, newCrew}
 
 pub scheme-number : (s : Scheme) → schemeOf (schemeNumber s) ≡ Good s
 scheme-number CutCandidates = refl
@@ -56,3 +62,30 @@ module _ (workers scheme : ℕ) where
 
   pub bad-scheme : inRange 1 maxWorkers workers ≡ true → schemeOf scheme ≡ Unknown → Refused ≡ newCrew workers scheme
   bad-scheme w e = rw (w, e)
+
+module _ (rows scan : ℕ) where
+  pub good-table : rows ≤ maxRows → scan ≤ maxScan → GoodTable (record { rows = rows; scan = scan }) ≡ newTable rows scan
+  good-table r s = rw (le-leb rows maxRows r, le-leb scan maxScan s)
+
+  pub dear-scan : rows ≤ maxRows → maxScan < scan → OverTable ≡ newTable rows scan
+  dear-scan r s = rw (le-leb rows maxRows r, lt-leb scan maxScan s)
+
+  pub many-rows : maxRows < rows → OverTable ≡ newTable rows scan
+  many-rows r = rw (lt-leb rows maxRows r)
+
+module _ (fixed outer inner result : ℕ) where
+  pub good-method : fixed ≤ maxFixed → outer ≤ maxCoefficient → inner ≤ maxCoefficient → result ≤ maxCoefficient
+      → GoodMethod (record { fixed = fixed; outer = outer; inner = inner; result = result }) ≡ newMethod fixed outer inner result
+  good-method f o i r = rw (le-leb fixed maxFixed f, le-leb outer maxCoefficient o, le-leb inner maxCoefficient i, le-leb result maxCoefficient r)
+
+  pub dear-fixed : maxFixed < fixed → OverMethod ≡ newMethod fixed outer inner result
+  dear-fixed f = rw (lt-leb fixed maxFixed f)
+
+  pub dear-outer : fixed ≤ maxFixed → maxCoefficient < outer → OverMethod ≡ newMethod fixed outer inner result
+  dear-outer f o = rw (le-leb fixed maxFixed f, lt-leb outer maxCoefficient o)
+
+  pub dear-inner : fixed ≤ maxFixed → outer ≤ maxCoefficient → maxCoefficient < inner → OverMethod ≡ newMethod fixed outer inner result
+  dear-inner f o i = rw (le-leb fixed maxFixed f, le-leb outer maxCoefficient o, lt-leb inner maxCoefficient i)
+
+  pub dear-result : fixed ≤ maxFixed → outer ≤ maxCoefficient → inner ≤ maxCoefficient → maxCoefficient < result → OverMethod ≡ newMethod fixed outer inner result
+  dear-result f o i r = rw (le-leb fixed maxFixed f, le-leb outer maxCoefficient o, le-leb inner maxCoefficient i, lt-leb result maxCoefficient r)
