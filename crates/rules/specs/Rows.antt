@@ -1,8 +1,10 @@
 -- The rows of the memo: "One memo row for each nonempty connected set, ordered by size and then by the ascending sequence of table numbers, compared as numbers".
 use mathlib.Core.Path.{_≡_}
 use mathlib.Core.Logic.{_⊎_}
+use mathlib.Core.Bool.{Bool, true, false, _&&_, _||_}
 use mathlib.Core.List.{List, [], _∷_, _++_, map, List·Memᴰ}
 use Prim.Native.Nat.{ℕ, zero, suc, _<_}
+use lib.Dec.{eqb, ltb}
 use Rattle.rules.specs.Lists.{keep, isYes, inRow}
 use Rattle.rules.specs.Sets.{number}
 use Rattle.rules.specs.Query.{Query, tableCount}
@@ -14,6 +16,13 @@ Before [] [] = ⊥
 Before [] (y ∷ ys) = Unit {0}
 Before (x ∷ xs) [] = ⊥
 Before (x ∷ xs) (y ∷ ys) = (x < y) ⊎ ((x ≡ y) × Before xs ys)
+
+-- the same as a test
+unfoldable pub before : List ℕ → List ℕ → Bool
+before [] [] = false
+before [] (y ∷ ys) = true
+before (x ∷ xs) [] = false
+before (x ∷ xs) (y ∷ ys) = ltb x y || (eqb x y && before xs ys)
 
 -- each stands before all that come after it
 unfoldable pub Ordered : List (List ℕ) → Type 0

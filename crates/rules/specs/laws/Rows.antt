@@ -1,18 +1,20 @@
 -- The memo's rows: every connected set once, nothing else, in the order of ascending sequences.
 use mathlib.Core.Path.{_≡_, refl, sym, ap, ap₂, _∙_, subst}
 use mathlib.Core.Logic.{_⊎_, inl, inr, ⊎-elim}
-use mathlib.Core.Bool.{Bool, true, false, cond}
+use mathlib.Core.Bool.{Bool, true, false, cond, _&&_}
 use mathlib.Core.List.{List, [], _∷_, _++_, map, List·Memᴰ, List·Memᴰ·head, List·Memᴰ·tail, List·Memᴰ·append-cases, List·Memᴰ·eq-of-singleton, Memᴰ·append-left, Memᴰ·append-right, List·Memᴰ·not-nil, Memᴰ·map, Memᴰ·of-map, Memᴰ·cast}
 use Prim.Native.Nat.{ℕ, zero, suc, _+_, _^_, _≤_, _<_}
 use native.Mathlib.Decide.{ℕ-discrete}
 use native.Mathlib.Omega.{arith}
+use lib.Dec.{eqb, ltb}
 use lib.ListN.{length}
+use borrow.Author.Tests.{ltb-true, eqb-true, lt-ltb, eq-eqb}
 use Rattle.rules.specs.Lists.{keep, isYes, inRow}
 use Rattle.rules.specs.Sets.{size, number, tables, Ascending}
 use Rattle.rules.specs.Query.{Query, tableCount}
 use Rattle.rules.specs.Connected.{Connected}
-use Rattle.rules.specs.Rows.{Before, Ordered, combos, sequences, rowsOf, memo}
-use Rattle.rules.specs.laws.Bools.{true-or-false, yes-true, true-yes}
+use Rattle.rules.specs.Rows.{Before, before, Ordered, combos, sequences, rowsOf, memo}
+use Rattle.rules.specs.laws.Bools.{true-or-false, not-both, and-true, and-true-l, and-true-r, or-cases, or-true-l, or-true-r, yes-true, true-yes}
 use Rattle.rules.specs.laws.Lists.{keep-in, keep-of, in-row, of-row, Once, once-row}
 use Rattle.rules.specs.laws.Sets.{lt-of-holds, size-pos, size-le}
 use Rattle.rules.specs.laws.Tables.{ascending-less, tables-size, tables-ascending, tables-back, number-back}
@@ -190,3 +192,24 @@ memo-only q S m = let r = of-row (rowsOf q) S 1 (tableCount q) m in rows-only q 
 pub memo-once : (q : Query) → Once (memo q)
 unfolding memo
 memo-once q = once-row (rowsOf q) (rows-once q) (λ j k S a b. sym (rows-only q j S a .1) ∙ rows-only q k S b .1) 1 (tableCount q)
+
+-- ---- the order as a test
+pub before-yes : (xs ys : List ℕ) → before xs ys ≡ true → Before xs ys
+unfolding before Before
+before-yes [] [] e = not-both false e refl
+before-yes [] (y ∷ ys) e = tt
+before-yes (x ∷ xs) [] e = not-both false e refl
+before-yes (x ∷ xs) (y ∷ ys) e =
+    ⊎-elim (λ l. inl (ltb-true x y l))
+    (λ r. inr (eqb-true x y (and-true-l (eqb x y) (before xs ys) r), before-yes xs ys (and-true-r (eqb x y) (before xs ys) r)))
+    (or-cases (ltb x y) (eqb x y && before xs ys) e)
+
+pub yes-before : (xs ys : List ℕ) → Before xs ys → before xs ys ≡ true
+unfolding before Before
+yes-before [] [] h = absurd h
+yes-before [] (y ∷ ys) h = refl
+yes-before (x ∷ xs) [] h = absurd h
+yes-before (x ∷ xs) (y ∷ ys) h =
+    ⊎-elim (λ l. or-true-l (ltb x y) (eqb x y && before xs ys) (lt-ltb x y l))
+    (λ r. or-true-r (ltb x y) (eqb x y && before xs ys) (and-true (eqb x y) (before xs ys) (eq-eqb x y (r .0)) (yes-before xs ys (r .1))))
+    h

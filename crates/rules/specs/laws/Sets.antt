@@ -1,11 +1,11 @@
 -- Laws of sets of tables, for any width.
 use mathlib.Core.Path.{_≡_, refl, sym, ap, ap₂, _∙_, subst}
-use mathlib.Core.Logic.{_≢_}
+use mathlib.Core.Logic.{_⊎_, inl, inr}
 use Prim.Native.Nat.{ℕ, zero, suc, _+_, _-_, _*_, _/_, _%_, _^_, _≤_, _<_, min, suc-le-suc}
 use native.Mathlib.Nat.{le-refl, zero-add, le-of-suc-le-suc, div-one, add-comm}
 use native.Mathlib.Numerals.{add-one}
 use lib.Pow.{shr-shr}
-use native.Mathlib.Decide.{decLt}
+use native.Mathlib.Decide.{decLt, ℕ-discrete}
 use native.Mathlib.Omega.{arith}
 use lib.Arith.{bin-ind, half-le}
 use lib.Bits.{bitAnd, bitOr, and-step, or-disjoint, and-comm, and-zero-l}
@@ -249,3 +249,14 @@ union-of {S} {X} {Y} p t = ap (λ (k : ℕ). holds k t) (sym (p .whole)) ∙ hol
 pub size-le : (n S : ℕ) → S < 2 ^ n → size S ≤ n
 size-le zero S l = let e : S ≡ 0 = omega arith in omega (arith, ap size e, size-zero)
 size-le (suc n) S l = omega (arith, ones-step S, size-le n (S / 2) (omega arith))
+
+-- a number is even or odd
+abbrev pub Parity : ℕ → Type 0
+Parity n = (n % 2 ≡ 0) ⊎ (n % 2 ≡ 1)
+
+pub parity : (n : ℕ) → Parity n
+parity n = go (ℕ-discrete (n % 2) 0)
+  where
+    go : Dec (n % 2 ≡ 0) → Parity n
+    go (yes e) = inl e
+    go (no f) = inr (omega arith)

@@ -12,7 +12,7 @@ use lib.ListN.{length}
 use lib.Count.{ones, ones-step}
 use borrow.Author.Tests.{eq-eqb, ne-eqb}
 use Rattle.rules.specs.Sets.{single, size, number, tablesFrom, tables, Ascending}
-use Rattle.rules.specs.laws.Sets.{single-suc, size-zero}
+use Rattle.rules.specs.laws.Sets.{single-suc, size-zero, Parity, parity}
 
 -- a sequence that ascends from a later table on ascends from an earlier one on
 pub ascending-less : (t e : ℕ) (s : List ℕ) → Ascending (suc t) e s → Ascending t e s
@@ -22,41 +22,34 @@ ascending-less t e (x ∷ s) r = (omega (arith, r .0), r .1, r .2)
 
 -- what tablesFrom makes, by the lowest digit
 module _ (t n S : ℕ) where
-  low-or-not : (S % 2 ≡ 1) ⊎ (S % 2 ≡ 0)
-  low-or-not = go (ℕ-discrete (S % 2) 1)
-    where
-      go : Dec (S % 2 ≡ 1) → (S % 2 ≡ 1) ⊎ (S % 2 ≡ 0)
-      go (yes e) = inl e
-      go (no f) = inr (omega arith)
-
-  tables-with : S % 2 ≡ 1 → tablesFrom t (suc n) S ≡ t ∷ tablesFrom (suc t) n (S / 2)
+  pub tables-with : S % 2 ≡ 1 → tablesFrom t (suc n) S ≡ t ∷ tablesFrom (suc t) n (S / 2)
   unfolding tablesFrom
   tables-with e = rw (eq-eqb (S % 2) 1 e)
 
-  tables-without : S % 2 ≡ 0 → tablesFrom t (suc n) S ≡ tablesFrom (suc t) n (S / 2)
+  pub tables-without : S % 2 ≡ 0 → tablesFrom t (suc n) S ≡ tablesFrom (suc t) n (S / 2)
   unfolding tablesFrom
   tables-without e = rw (ne-eqb (S % 2) 1 (λ f. omega arith))
 
 pub tables-size : (t n S : ℕ) → S < 2 ^ n → length (tablesFrom t n S) ≡ size S
 unfolding tablesFrom
 tables-size t zero S l = let e : S ≡ 0 = omega arith in rw e (sym size-zero)
-tables-size t (suc n) S l = go (tables-size (suc t) n (S / 2) (omega arith)) (low-or-not t n S)
+tables-size t (suc n) S l = go (tables-size (suc t) n (S / 2) (omega arith)) (parity S)
   where
-    go : length (tablesFrom (suc t) n (S / 2)) ≡ size (S / 2) → (S % 2 ≡ 1) ⊎ (S % 2 ≡ 0) → length (tablesFrom t (suc n) S) ≡ size S
-    go ih (inl e) = rw (tables-with t n S e) (omega (arith, ones-step S))
-    go ih (inr e) = rw (tables-without t n S e) (omega (arith, ones-step S))
+    go : length (tablesFrom (suc t) n (S / 2)) ≡ size (S / 2) → Parity S → length (tablesFrom t (suc n) S) ≡ size S
+    go ih (inr e) = rw (tables-with t n S e) (omega (arith, ones-step S))
+    go ih (inl e) = rw (tables-without t n S e) (omega (arith, ones-step S))
 
 pub tables-ascending : (t n S : ℕ) → Ascending t (t + n) (tablesFrom t n S)
 unfolding tablesFrom Ascending
 tables-ascending t zero S = tt
-tables-ascending t (suc n) S = go (tables-ascending (suc t) n (S / 2)) (low-or-not t n S)
+tables-ascending t (suc n) S = go (tables-ascending (suc t) n (S / 2)) (parity S)
   where
     shift : suc t + n ≡ t + suc n
     shift = omega arith
 
-    go : Ascending (suc t) (suc t + n) (tablesFrom (suc t) n (S / 2)) → (S % 2 ≡ 1) ⊎ (S % 2 ≡ 0) → Ascending t (t + suc n) (tablesFrom t (suc n) S)
-    go ih (inl e) = rw (tables-with t n S e) (omega arith, omega arith, rw shift at ih)
-    go ih (inr e) = rw (tables-without t n S e) (ascending-less t (t + suc n) (tablesFrom (suc t) n (S / 2)) (rw shift at ih))
+    go : Ascending (suc t) (suc t + n) (tablesFrom (suc t) n (S / 2)) → Parity S → Ascending t (t + suc n) (tablesFrom t (suc n) S)
+    go ih (inr e) = rw (tables-with t n S e) (omega arith, omega arith, rw shift at ih)
+    go ih (inl e) = rw (tables-without t n S e) (ascending-less t (t + suc n) (tablesFrom (suc t) n (S / 2)) (rw shift at ih))
 
 odd : (h p : ℕ) → p + h * (2 * p) ≡ (2 * h + 1) * p
 odd h p = omega arith
@@ -68,16 +61,16 @@ even h p = omega arith
 pub tables-number : (i n S : ℕ) → S < 2 ^ n → number (tablesFrom (suc i) n S) ≡ S * 2 ^ i
 unfolding tablesFrom number
 tables-number i zero S l = let e : S ≡ 0 = omega arith in rw (e, zero-mul)
-tables-number i (suc n) S l = go (tables-number (suc i) n (S / 2) (omega arith)) (low-or-not (suc i) n S)
+tables-number i (suc n) S l = go (tables-number (suc i) n (S / 2) (omega arith)) (parity S)
   where
     double : 2 ^ suc i ≡ 2 * 2 ^ i
     double = omega arith
 
-    go : number (tablesFrom (suc (suc i)) n (S / 2)) ≡ S / 2 * 2 ^ suc i → (S % 2 ≡ 1) ⊎ (S % 2 ≡ 0) → number (tablesFrom (suc i) (suc n) S) ≡ S * 2 ^ i
-    go ih (inl e) =
+    go : number (tablesFrom (suc (suc i)) n (S / 2)) ≡ S / 2 * 2 ^ suc i → Parity S → number (tablesFrom (suc i) (suc n) S) ≡ S * 2 ^ i
+    go ih (inr e) =
         let f : S ≡ 2 * (S / 2) + 1 = omega arith in
         rw (tables-with (suc i) n S e, ih, single-suc i, double, odd (S / 2) (2 ^ i)) (ap (λ (x : ℕ). x * 2 ^ i) (sym f))
-    go ih (inr e) =
+    go ih (inl e) =
         let f : S ≡ 2 * (S / 2) = omega arith in
         rw (tables-without (suc i) n S e, ih, double, even (S / 2) (2 ^ i)) (ap (λ (x : ℕ). x * 2 ^ i) (sym f))
 
@@ -87,7 +80,7 @@ unfolding tables
 tables-back n S l = tables-number 0 n S l ∙ mul-one S
 
 -- a list that rises is what its number holds
-tables-zero : (t n : ℕ) → tablesFrom t n 0 ≡ []
+pub tables-zero : (t n : ℕ) → tablesFrom t n 0 ≡ []
 unfolding tablesFrom
 tables-zero t zero = refl
 tables-zero t (suc n) = tables-zero (suc t) n
