@@ -18,7 +18,8 @@ use Rattle.rules.specs.Skips.{skips}
 use Rattle.rules.specs.Shares.{Numbered, queue}
 use Rattle.rules.specs.Turns.{Hand, Sizes, only}
 use Rattle.rules.specs.Log.{Pair, pairOf, union, Stands}
-use Rattle.rules.specs.Refusals.{Memory, Input, Verdict, verdict}
+use Rattle.rules.specs.declared.Verdict.{Verdict}
+use Rattle.rules.specs.Refusals.{Memory, Input, verdict}
 
 -- "The answer gives best cost, number of memo rows, of skip cells, of joinable pairs, and eight per-worker pair counts"
 pub record Answer : Type 0 where

@@ -12,7 +12,8 @@ use Rattle.rules.specs.Trees.{Least, Pick}
 use Rattle.rules.specs.Rows.{Before}
 use Rattle.rules.specs.Skips.{vectors}
 use Rattle.rules.specs.Shares.{share}
-use Rattle.rules.specs.Refusals.{Memory, Input, Verdict, verdict}
+use Rattle.rules.specs.declared.Verdict.{Verdict}
+use Rattle.rules.specs.Refusals.{Memory, Input, verdict}
 use Rattle.rules.specs.Answers.{Answer, Outcome, Row, Given}
 use Rattle.rules.specs.laws.Choice.{Choice}
 use Rattle.rules.specs.laws.Reference.{offersBelow}

@@ -6,6 +6,7 @@ use lib.Dec.{eqb, leb, ltb}
 use lib.ListN.{length, getD}
 use Rattle.rules.specs.Limits.{tablesFit, methodsFit, tableFits, methodFits}
 use Rattle.rules.specs.Kinds.{newEdge, edgeNumber, newCrew}
+use Rattle.rules.specs.declared.Verdict.{Verdict}
 use Rattle.rules.specs.declared.NewCrew.{NewCrew}
 use Rattle.rules.specs.declared.NewCrew.the-variants.{Good, Refused}
 use Rattle.rules.specs.Lists.{isYes}
@@ -37,44 +38,50 @@ pub record Input : Type 0 where
   pub turns : List ℕ
   pub lent : Memory
 
--- number 0 is no refusal; "Place: the first such record or turn, counted from 0, else 0"
-pub record Verdict : Type 0 where
-  pub number : ℕ
-  pub place : ℕ
+-- no refusal: number 0. "Place: the first such record or turn, counted from 0, else 0"
+abbrev pub none : Verdict
+none = record { number = 0; place = 0 }
 
 -- refusal `number` at place 0, where the test says so
 unfoldable pub refuse : ℕ → Bool → Verdict
-refuse number bad = cond bad (record { number = number; place = 0 }) (record { number = 0; place = 0 })
+refuse number bad = cond bad (record { number = number; place = 0 }) none
 
 -- the first of n records, from record i on, whose number is not 0
 unfoldable pub firstBad : (ℕ → ℕ) → ℕ → ℕ → Verdict
-firstBad f i zero = record { number = 0; place = 0 }
+firstBad f i zero = none
 firstBad f i (suc n) = cond (eqb (f i) 0) (firstBad f (suc i) n) (record { number = f i; place = i })
 
 -- "Checked in this order": the first refusal of the list
 unfoldable pub firstOf : List Verdict → Verdict
-firstOf [] = record { number = 0; place = 0 }
+firstOf [] = none
 firstOf (v ∷ vs) = cond (eqb (v .number) 0) (firstOf vs) v
 
--- all lists have the length n
-unfoldable pub allLong : ℕ → List (List ℕ) → Bool
-allLong n [] = true
-allLong n (l ∷ ls) = eqb (length l) n && allLong n ls
+-- all numbers are n
+unfoldable pub allAre : ℕ → List ℕ → Bool
+allAre n [] = true
+allAre n (k ∷ ks) = eqb k n && allAre n ks
 
--- in each group all lists have the length of the first
-unfoldable pub allSame : List (List (List ℕ)) → Bool
+-- in each group all numbers are the same
+unfoldable pub allSame : List (List ℕ) → Bool
 allSame [] = true
 allSame ([] ∷ gs) = allSame gs
-allSame ((l ∷ ls) ∷ gs) = allLong (length l) ls && allSame gs
+allSame ((n ∷ ks) ∷ gs) = allAre n ks && allSame gs
 
--- refusal 1: "lent lists holding fields of the same records": tables, edges, methods, memo rows, log entries
-unfoldable pub groups : Query → Memory → List (List (List ℕ))
-groups q lent =
-    (q .rows ∷ q .scans ∷ [])
-    ∷ (q .left ∷ q .right ∷ q .divisors ∷ [])
-    ∷ (q .fixed ∷ q .perOuter ∷ q .perInner ∷ q .perResult ∷ [])
-    ∷ (lent .sets ∷ lent .estimates ∷ lent .costs ∷ lent .outers ∷ lent .methods ∷ [])
-    ∷ (lent .logWorkers ∷ lent .logDriving ∷ lent .logInner ∷ lent .logCosts ∷ [])
+-- the lengths of the lent columns of the memo, and of the log
+abbrev pub memoLengths : Memory → List ℕ
+memoLengths lent = length (lent .sets) ∷ length (lent .estimates) ∷ length (lent .costs) ∷ length (lent .outers) ∷ length (lent .methods) ∷ []
+
+abbrev pub logLengths : Memory → List ℕ
+logLengths lent = length (lent .logWorkers) ∷ length (lent .logDriving) ∷ length (lent .logInner) ∷ length (lent .logCosts) ∷ []
+
+-- refusal 1: "lent lists holding fields of the same records": the lengths of those of tables, edges, methods, memo rows and log entries
+unfoldable pub groups : Query → List ℕ → List ℕ → List (List ℕ)
+groups q memoColumns logColumns =
+    (length (q .rows) ∷ length (q .scans) ∷ [])
+    ∷ (length (q .left) ∷ length (q .right) ∷ length (q .divisors) ∷ [])
+    ∷ (length (q .fixed) ∷ length (q .perOuter) ∷ length (q .perInner) ∷ length (q .perResult) ∷ [])
+    ∷ memoColumns
+    ∷ logColumns
     ∷ []
 
 -- refusal 3: "rows or scan cost of a table over its limit"
@@ -112,20 +119,22 @@ isRefused Refused = true
 unfoldable pub badTurn : ℕ → List ℕ → ℕ → ℕ
 badTurn workers turns i = cond (ltb (getD turns i 0) workers) 0 12
 
--- refusals 1 to 12
-unfoldable pub checks : Input → List Verdict
-checks i =
-    let q = i .query in
-    refuse 1 (not (allSame (groups q (i .lent))))
+-- refusals 1 to 12: they look at the query, the crew, the turns, and of the lent memory only at lengths
+unfoldable pub checksOf : Query → ℕ → ℕ → List ℕ → List ℕ → List ℕ → List Verdict
+checksOf q workers scheme turns memoColumns logColumns =
+    refuse 1 (not (allSame (groups q memoColumns logColumns)))
     ∷ refuse 2 (not (tablesFit (tableCount q)))
     ∷ firstBad (badTable q) 0 (tableCount q)
     ∷ refuse 4 (not (methodsFit (methodCount q)))
     ∷ firstBad (badMethod q) 0 (methodCount q)
     ∷ firstBad (badEdge q) 0 (edgeCount q)
     ∷ refuse 10 (not (isYes (connected? q (full (tableCount q)))))
-    ∷ refuse 11 (isRefused (newCrew (i .workers) (i .scheme)))
-    ∷ firstBad (badTurn (i .workers) (i .turns)) 0 (length (i .turns))
+    ∷ refuse 11 (isRefused (newCrew workers scheme))
+    ∷ firstBad (badTurn workers turns) 0 (length turns)
     ∷ []
+
+unfoldable pub checks : Input → List Verdict
+checks i = checksOf (i .query) (i .workers) (i .scheme) (i .turns) (memoLengths (i .lent)) (logLengths (i .lent))
 
 -- refusals 13 and 14: "memo rows fewer than connected sets", "skip cells fewer than the sum of those sets' sizes"
 unfoldable pub rooms : Input → List Verdict

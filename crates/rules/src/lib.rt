@@ -224,3 +224,9 @@ pub enum Step {
     Scan(u64),
     Join(JoinStep),
 }
+
+// A numbered refusal and its place; number 0 is none.
+pub struct Verdict {
+    pub number: u64,
+    pub place: u64,
+}

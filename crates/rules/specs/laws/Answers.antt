@@ -22,7 +22,8 @@ use Rattle.rules.specs.Trees.{Least, Pick}
 use Rattle.rules.specs.Rows.{memo}
 use Rattle.rules.specs.Shares.{Numbered, queue}
 use Rattle.rules.specs.Turns.{Hand, Sizes, only}
-use Rattle.rules.specs.Refusals.{Memory, Input, Verdict, verdict}
+use Rattle.rules.specs.declared.Verdict.{Verdict}
+use Rattle.rules.specs.Refusals.{Memory, Input, verdict}
 use Rattle.rules.specs.Checked.{Accepted}
 use Rattle.rules.specs.Answers.{Answer, Outcome, each, perWorker, refusal, Refused, Spared, Row, Filled, InTurn, shown, Logged, Counted, Given, Planned}
 use Rattle.rules.specs.laws.Lists.{sum}

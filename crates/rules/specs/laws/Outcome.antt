@@ -26,7 +26,8 @@ use Rattle.rules.specs.Candidates.{withRow, across, within, driven, cand
 use Rattle.rules.specs.Shares.{Numbered, numbered, cut, inCut, owns, met, share, queue}
 use Rattle.rules.specs.Turns.{Hand, Sizes, only}
 use Rattle.rules.specs.Log.{Pair, pairOf, union, Stands}
-use Rattle.rules.specs.Refusals.{Memory, Input, Verdict, refuse, firstBad, firstOf, allLong, allSame, groups, badTable, badMethod, joinedBelow, repeats, edgeOr, badEdge, isRefused, badTurn, checks, rooms, verdict}
+use Rattle.rules.specs.declared.Verdict.{Verdict}
+use Rattle.rules.specs.Refusals.{Memory, Input, refuse, firstBad, firstOf, allAre, allSame, groups, badTable, badMethod, joinedBelow, repeats, edgeOr, badEdge, isRefused, badTurn, checksOf, checks, rooms, verdict}
 use Rattle.rules.specs.Checked.{Accepted}
 use Rattle.rules.specs.Answers.{Answer, Outcome, each, perWorker, refusal, Refused, Spared, Row, Filled, InTurn, shown, upTo, Logged, Counted, Given, Planned}
 use Rattle.rules.specs.laws.Bools.{find}
@@ -111,7 +112,7 @@ unfolding outcome planWith refusedOf planOf standing handsOf bestAt rowAt each
     combos sequences rowsOf memo skipFrom vectorsFrom vectors skips
     withRow across within driven candidatesOf candidates joinable
     numbered cut inCut owns met share queue only sizes-exist
-    refuse firstBad firstOf allLong allSame groups badTable badMethod joinedBelow repeats edgeOr badEdge isRefused badTurn checks rooms verdict
+    refuse firstBad firstOf allAre allSame groups badTable badMethod joinedBelow repeats edgeOr badEdge isRefused badTurn checksOf checks rooms verdict
     connected? between? find
     sooner better bestOf byMethod splitsAt offersBelow pickOf scanRow rowOf offersOf offersFor
 computed i = outcome i

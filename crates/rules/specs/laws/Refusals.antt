@@ -9,6 +9,7 @@ use native.Mathlib.Omega.{arith}
 use lib.Dec.{eqb, leb, ltb}
 use lib.ListN.{length, getD}
 use borrow.Author.Tests.{eqb-true, eqb-false, eq-eqb, ne-eqb, ltb-true, ltb-false, lt-ltb, le-ltb, leb-true, leb-false, le-leb, not-true, not-false}
+use Rattle.rules.specs.declared.Verdict.{Verdict}
 use Rattle.rules.specs.declared.Edge.{Edge}
 use Rattle.rules.specs.declared.NewEdge.{NewEdge}
 use Rattle.rules.specs.declared.NewEdge.the-variants.{Good as GoodEdge, Outside, Itself, Divisor}
@@ -26,7 +27,7 @@ use Rattle.rules.specs.Connected.{Connected}
 use Rattle.rules.specs.Estimate.{joinsAt}
 use Rattle.rules.specs.Rows.{memo}
 use Rattle.rules.specs.Skips.{skips}
-use Rattle.rules.specs.Refusals.{Memory, Input, Verdict, refuse, firstBad, firstOf, allLong, allSame, groups, badTable, badMethod, joinedBelow, repeats, edgeOr, badEdge, isRefused, badTurn, checks, rooms, verdict}
+use Rattle.rules.specs.Refusals.{Memory, Input, refuse, firstBad, firstOf, none, allAre, allSame, memoLengths, logLengths, groups, badTable, badMethod, joinedBelow, repeats, edgeOr, badEdge, isRefused, badTurn, checksOf, checks, rooms, verdict}
 use Rattle.rules.specs.Checked.{SameLengths, TableGood, MethodGood, EdgeGood, Sound, Columns, CrewGood, Checked, Accepted}
 use Rattle.rules.specs.laws.Bools.{true-or-false, not-both, and-true, and-true-l, and-true-r, or-cases, or-true-l, or-true-r, yes-true, true-yes}
 use Rattle.rules.specs.laws.Decide.{connected?}
@@ -46,7 +47,7 @@ none-all (v ∷ vs) e = go (none-all vs) (true-or-false (eqb (v .number) 0)) e
     go ih (inl z) e = (eqb-true (v .number) 0 z, ih (rw z at e))
     go ih (inr z) e = absurd (eqb-false (v .number) 0 z (rw z at e))
 
-all-none : (vs : List Verdict) → AllNone vs → firstOf vs ≡ record { number = 0; place = 0 }
+all-none : (vs : List Verdict) → AllNone vs → firstOf vs ≡ none
 unfolding firstOf AllNone
 all-none [] h = refl
 all-none (v ∷ vs) h = rw (eq-eqb (v .number) 0 (h .0)) (all-none vs (h .1))
@@ -94,39 +95,39 @@ of-range : (low high n : ℕ) → low ≤ n → n ≤ high → inRange low high 
 of-range low high n a b = and-true (leb low n) (leb n high) (le-leb low n a) (le-leb n high b)
 
 -- ---- lengths, as facts
-unfoldable pub AllLong : ℕ → List (List ℕ) → Type 0
-AllLong n [] = Unit {0}
-AllLong n (l ∷ ls) = (length l ≡ n) × AllLong n ls
+unfoldable pub AllAre : ℕ → List ℕ → Type 0
+AllAre n [] = Unit {0}
+AllAre n (k ∷ ks) = (k ≡ n) × AllAre n ks
 
-unfoldable pub AllSame : List (List (List ℕ)) → Type 0
+unfoldable pub AllSame : List (List ℕ) → Type 0
 AllSame [] = Unit {0}
 AllSame ([] ∷ gs) = AllSame gs
-AllSame ((l ∷ ls) ∷ gs) = AllLong (length l) ls × AllSame gs
+AllSame ((n ∷ ks) ∷ gs) = AllAre n ks × AllSame gs
 
-long-true : (n : ℕ) (ls : List (List ℕ)) → allLong n ls ≡ true → AllLong n ls
-unfolding allLong AllLong
-long-true n [] e = tt
-long-true n (l ∷ ls) e = (eqb-true (length l) n (and-true-l (eqb (length l) n) (allLong n ls) e), long-true n ls (and-true-r (eqb (length l) n) (allLong n ls) e))
+are-true : (n : ℕ) (ks : List ℕ) → allAre n ks ≡ true → AllAre n ks
+unfolding allAre AllAre
+are-true n [] e = tt
+are-true n (k ∷ ks) e = (eqb-true k n (and-true-l (eqb k n) (allAre n ks) e), are-true n ks (and-true-r (eqb k n) (allAre n ks) e))
 
-true-long : (n : ℕ) (ls : List (List ℕ)) → AllLong n ls → allLong n ls ≡ true
-unfolding allLong AllLong
-true-long n [] h = refl
-true-long n (l ∷ ls) h = and-true (eqb (length l) n) (allLong n ls) (eq-eqb (length l) n (h .0)) (true-long n ls (h .1))
+true-are : (n : ℕ) (ks : List ℕ) → AllAre n ks → allAre n ks ≡ true
+unfolding allAre AllAre
+true-are n [] h = refl
+true-are n (k ∷ ks) h = and-true (eqb k n) (allAre n ks) (eq-eqb k n (h .0)) (true-are n ks (h .1))
 
-same-true : (gs : List (List (List ℕ))) → allSame gs ≡ true → AllSame gs
+same-true : (gs : List (List ℕ)) → allSame gs ≡ true → AllSame gs
 unfolding allSame AllSame
 same-true [] e = tt
 same-true ([] ∷ gs) e = same-true gs e
-same-true ((l ∷ ls) ∷ gs) e = (long-true (length l) ls (and-true-l (allLong (length l) ls) (allSame gs) e), same-true gs (and-true-r (allLong (length l) ls) (allSame gs) e))
+same-true ((n ∷ ks) ∷ gs) e = (are-true n ks (and-true-l (allAre n ks) (allSame gs) e), same-true gs (and-true-r (allAre n ks) (allSame gs) e))
 
-true-same : (gs : List (List (List ℕ))) → AllSame gs → allSame gs ≡ true
+true-same : (gs : List (List ℕ)) → AllSame gs → allSame gs ≡ true
 unfolding allSame AllSame
 true-same [] h = refl
 true-same ([] ∷ gs) h = true-same gs h
-true-same ((l ∷ ls) ∷ gs) h = and-true (allLong (length l) ls) (allSame gs) (true-long (length l) ls (h .0)) (true-same gs (h .1))
+true-same ((n ∷ ks) ∷ gs) h = and-true (allAre n ks) (allSame gs) (true-are n ks (h .0)) (true-same gs (h .1))
 
-lengths-of : (q : Query) (lent : Memory) → AllSame (groups q lent) → SameLengths q × Columns lent
-unfolding AllSame AllLong groups
+lengths-of : (q : Query) (lent : Memory) → AllSame (groups q (memoLengths lent) (logLengths lent)) → SameLengths q × Columns lent
+unfolding AllSame AllAre groups
 lengths-of q lent h =
     let e = h .1 .0 in
     let m = h .1 .1 .0 in
@@ -136,8 +137,8 @@ lengths-of q lent h =
       record { estimates = c .0; costs = c .1 .0; outers = c .1 .1 .0; methods = c .1 .1 .1 .0; driving = l .0; inner = l .1 .0; log-costs = l .1 .1 .0 },
     )
 
-of-lengths : (q : Query) (lent : Memory) → SameLengths q → Columns lent → AllSame (groups q lent)
-unfolding AllSame AllLong groups
+of-lengths : (q : Query) (lent : Memory) → SameLengths q → Columns lent → AllSame (groups q (memoLengths lent) (logLengths lent))
+unfolding AllSame AllAre groups
 of-lengths q lent s c = (
   (s .scans, tt),
   ((s .right, (s .divisors, tt)), ((s .outer, (s .inner, (s .result, tt))), ((c .estimates, (c .costs, (c .outers, (c .methods, tt)))), ((c .driving, (c .inner, (c .log-costs, tt))), tt)))),
@@ -318,7 +319,7 @@ true-turn workers turns j l = none-test (ltb (getD turns j 0) workers) 12 (lt-lt
 
 -- where no refusal is given, the input is accepted
 pub accepted : (i : Input) → verdict i .number ≡ 0 → Accepted i
-unfolding verdict checks rooms AllNone
+unfolding verdict checks checksOf rooms AllNone
 accepted i e = record {
   checked = record {
     sound = record {
@@ -350,7 +351,7 @@ accepted i e = record {
     a = none-all (checks i ++ rooms i) e
 
     lengths : SameLengths q × Columns (i .lent)
-    lengths = lengths-of q (i .lent) (same-true (groups q (i .lent)) (not-false (allSame (groups q (i .lent))) (none-refuse 0 (not (allSame (groups q (i .lent)))) (a .0))))
+    lengths = lengths-of q (i .lent) (same-true (groups q (memoLengths (i .lent)) (logLengths (i .lent))) (not-false (allSame (groups q (memoLengths (i .lent)) (logLengths (i .lent)))) (none-refuse 0 (not (allSame (groups q (memoLengths (i .lent)) (logLengths (i .lent))))) (a .0))))
 
     some-tables : (1 ≤ tableCount q) × (tableCount q ≤ maxTables)
     some-tables = range 1 maxTables (tableCount q) (not-false (tablesFit (tableCount q)) (none-refuse 1 (not (tablesFit (tableCount q))) (a .1 .0)))
@@ -359,10 +360,10 @@ accepted i e = record {
     some-methods = range 1 maxMethods (methodCount q) (not-false (methodsFit (methodCount q)) (none-refuse 3 (not (methodsFit (methodCount q))) (a .1 .1 .1 .0)))
 
 -- and the other way round: A PLAN IS GIVEN EXACTLY FOR THE ACCEPTED INPUTS
-pub accepted-none : (i : Input) → Accepted i → verdict i ≡ record { number = 0; place = 0 }
-unfolding verdict checks rooms AllNone
+pub accepted-none : (i : Input) → Accepted i → verdict i ≡ none
+unfolding verdict checks checksOf rooms AllNone
 accepted-none i c = all-none (checks i ++ rooms i) (
-  refuse-none 1 (not (allSame (groups q (i .lent)))) (rw (true-same (groups q (i .lent)) (of-lengths q (i .lent) (s .lengths) (c .checked .columns)))),
+  refuse-none 1 (not (allSame (groups q (memoLengths (i .lent)) (logLengths (i .lent))))) (rw (true-same (groups q (memoLengths (i .lent)) (logLengths (i .lent))) (of-lengths q (i .lent) (s .lengths) (c .checked .columns)))),
   (
     refuse-none 2 (not (tablesFit (tableCount q))) (rw (of-range 1 maxTables (tableCount q) (s .some-table) (s .few-tables))),
     (
