@@ -67,19 +67,19 @@ pub record Row (q : Query) (S c x m : ℕ) : Type 0 where
 
 -- demand 2: the memo and the skip table hold what they are defined to hold
 pub record Filled (q : Query) (before after : Memory) : Type 0 where
-  pub sets : after .sets ≡ over (memo q) (before .sets)
-  pub estimates : after .estimates ≡ over (map (estimate q) (memo q)) (before .estimates)
-  pub rows : (j : ℕ) → j < length (memo q) → Row q (getD (memo q) j 0) (getD (after .costs) j 0) (getD (after .outers) j 0) (getD (after .methods) j 0)
-  pub costs : Spared (length (memo q)) (before .costs) (after .costs)
-  pub outers : Spared (length (memo q)) (before .outers) (after .outers)
-  pub methods : Spared (length (memo q)) (before .methods) (after .methods)
-  pub skips : after .skips ≡ over (skips q) (before .skips)
+  pub sets : after .sets ≡ over (memo (q .graph)) (before .sets)
+  pub estimates : after .estimates ≡ over (map (estimate (q .graph)) (memo (q .graph))) (before .estimates)
+  pub rows : (j : ℕ) → j < length (memo (q .graph)) → Row q (getD (memo (q .graph)) j 0) (getD (after .costs) j 0) (getD (after .outers) j 0) (getD (after .methods) j 0)
+  pub costs : Spared (length (memo (q .graph))) (before .costs) (after .costs)
+  pub outers : Spared (length (memo (q .graph))) (before .outers) (after .outers)
+  pub methods : Spared (length (memo (q .graph))) (before .methods) (after .methods)
+  pub skips : after .skips ≡ over (skips (q .graph)) (before .skips)
 
 -- demand 3: the turns in a row hand h, from result size 2 to N
 pub record InTurn (i : Input) (h : List (Hand Numbered)) : Type 0 where
   pub scheme : Scheme
   pub named : schemeOf (i .scheme) ≡ Good scheme
-  pub sizes : Sizes (i .workers) (queue (i .query) scheme (i .workers)) 2 (tableCount (i .query) - 1) (i .turns) h
+  pub sizes : Sizes (i .workers) (queue (i .query .graph) scheme (i .workers)) 2 (tableCount (i .query .graph) - 1) (i .turns) h
 
 -- "It holds the first pairs that fit": as many as the log has room for
 abbrev pub shown : Memory → List (Hand Numbered) → List (Hand Numbered)
@@ -101,9 +101,9 @@ pub record Logged (q : Query) (h : List (Hand Numbered)) (before after : Memory)
 pub record Counted (q : Query) (h : List (Hand Numbered)) (a : Answer) : Type 0 where
   pub refusal : a .refusal ≡ 0
   pub place : a .place ≡ 0
-  pub best : Least q (full (tableCount q)) (a .best)
-  pub rows : a .rows ≡ length (memo q)
-  pub cells : a .cells ≡ length (skips q)
+  pub best : Least q (full (tableCount (q .graph))) (a .best)
+  pub rows : a .rows ≡ length (memo (q .graph))
+  pub cells : a .cells ≡ length (skips (q .graph))
   pub pairs : a .pairs ≡ length h
   pub counts : a .counts ≡ perWorker (λ w. length (only w h))
 

@@ -6,7 +6,7 @@ use lib.Dec.{eqb}
 use lib.ListN.{length}
 use Rattle.rules.specs.Lists.{isYes, inRow}
 use Rattle.rules.specs.Sets.{disjoint}
-use Rattle.rules.specs.Query.{Query}
+use Rattle.rules.specs.Query.{Graph}
 use Rattle.rules.specs.Rows.{rowsOf}
 use Rattle.rules.specs.laws.Decide.{between?}
 
@@ -46,9 +46,9 @@ unfoldable pub candidatesOf : (ℕ → List ℕ) → ℕ → List Candidate
 candidatesOf rows s = inRow (driven rows s) 1 (s / 2)
 
 -- all candidates of result size s, over the memo's rows
-unfoldable pub candidates : Query → ℕ → List Candidate
-candidates q s = candidatesOf (rowsOf q) s
+unfoldable pub candidates : Graph → ℕ → List Candidate
+candidates g s = candidatesOf (rowsOf g) s
 
 -- "A candidate is joinable if the sets are disjoint and an edge runs between them."
-unfoldable pub joinable : Query → Candidate → Bool
-joinable q c = disjoint (c .driving) (c .inner) && isYes (between? q (c .driving) (c .inner))
+unfoldable pub joinable : Graph → Candidate → Bool
+joinable g c = disjoint (c .driving) (c .inner) && isYes (between? g (c .driving) (c .inner))

@@ -22,11 +22,8 @@ use Rattle.rules.specs.laws.Outcome.{bestAt, outcome, computed, outcome-
 -- "Input": three tables, two methods, edges 1-2 and 2-3
 abbrev pub example : Query
 example = record {
-  rows = 100 ∷ 10 ∷ 1000 ∷ [];
+  graph = record { rows = 100 ∷ 10 ∷ 1000 ∷ []; left = 1 ∷ 2 ∷ []; right = 2 ∷ 3 ∷ []; divisors = 10 ∷ 100 ∷ [] };
   scans = 100 ∷ 10 ∷ 1000 ∷ [];
-  left = 1 ∷ 2 ∷ [];
-  right = 2 ∷ 3 ∷ [];
-  divisors = 10 ∷ 100 ∷ [];
   fixed = 5 ∷ 50 ∷ [];
   perOuter = 1 ∷ 1 ∷ [];
   perInner = 2 ∷ 1 ∷ [];
@@ -36,11 +33,8 @@ example = record {
 -- 000's figure 4: "eight tables, edges 1-2, 1-3, 1-4, 2-5, 2-6, 4-7, 4-8"
 abbrev pub figure4 : Query
 figure4 = record {
-  rows = replicate 8 1;
+  graph = record { rows = replicate 8 1; left = 1 ∷ 1 ∷ 1 ∷ 2 ∷ 2 ∷ 4 ∷ 4 ∷ []; right = 2 ∷ 3 ∷ 4 ∷ 5 ∷ 6 ∷ 7 ∷ 8 ∷ []; divisors = replicate 7 1 };
   scans = replicate 8 1;
-  left = 1 ∷ 1 ∷ 1 ∷ 2 ∷ 2 ∷ 4 ∷ 4 ∷ [];
-  right = 2 ∷ 3 ∷ 4 ∷ 5 ∷ 6 ∷ 7 ∷ 8 ∷ [];
-  divisors = replicate 7 1;
   fixed = 1 ∷ [];
   perOuter = 1 ∷ [];
   perInner = 1 ∷ [];
@@ -50,11 +44,8 @@ figure4 = record {
 -- a query of tables with these rows, each scanned for 5, without an edge
 abbrev pub loose : List ℕ → Query
 loose rows = record {
-  rows = rows;
+  graph = record { rows = rows; left = []; right = []; divisors = [] };
   scans = map (λ (r : ℕ). 5) rows;
-  left = [];
-  right = [];
-  divisors = [];
   fixed = 1 ∷ [];
   perOuter = 1 ∷ [];
   perInner = 1 ∷ [];
@@ -111,18 +102,18 @@ pub record Cases : Type 0 where
   pub C2 : map (λ (k : Choice). k .outer ∷ k .method ∷ k .cost ∷ []) (offersBelow example (bestAt example) 7 7)
       ≡ (6 ∷ 2 ∷ 3485 ∷ []) ∷ (6 ∷ 1 ∷ 3540 ∷ []) ∷ (4 ∷ 2 ∷ 3485 ∷ []) ∷ (4 ∷ 1 ∷ 3540 ∷ []) ∷ (3 ∷ 2 ∷ 3485 ∷ []) ∷ (3 ∷ 1 ∷ 4440 ∷ []) ∷ (1 ∷ 2 ∷ 3485 ∷ []) ∷ (1 ∷ 1 ∷ 3540 ∷ []) ∷ []
   -- "C3 its size-2 skip vectors: 2 3 and 3 3"
-  pub C3 : vectors example 2 ≡ 2 ∷ 3 ∷ 3 ∷ 3 ∷ []
+  pub C3 : vectors (example .graph) 2 ≡ 2 ∷ 3 ∷ 3 ∷ 3 ∷ []
   -- "C4 for 000's figure 4 .., size 3: row 1 is 8 5 2, row 5 is 8 6 8"
-  pub C4-row1 : take 3 (vectors figure4 3) ≡ 8 ∷ 5 ∷ 2 ∷ []
-  pub C4-row5 : take 3 (drop (4 * 3) (vectors figure4 3)) ≡ 8 ∷ 6 ∷ 8 ∷ []
+  pub C4-row1 : take 3 (vectors (figure4 .graph) 3) ≡ 8 ∷ 5 ∷ 2 ∷ []
+  pub C4-row5 : take 3 (drop (4 * 3) (vectors (figure4 .graph) 3)) ≡ 8 ∷ 6 ∷ 8 ∷ []
   -- "C5 two workers, scheme 3, turns 1,1: log (1,{2},{3},2135), (0,{1},{2},335), (0,{1},{2,3},3485), (0,{3},{1,2},3485)", with one entry to spare
   pub C5-workers : outcome pair .left .logWorkers ≡ 1 ∷ 0 ∷ 0 ∷ 0 ∷ mark ∷ []
   pub C5-driving : outcome pair .left .logDriving ≡ 2 ∷ 1 ∷ 1 ∷ 4 ∷ mark ∷ []
   pub C5-inner : outcome pair .left .logInner ≡ 4 ∷ 2 ∷ 6 ∷ 3 ∷ mark ∷ []
   pub C5-costs : outcome pair .left .logCosts ≡ 2135 ∷ 335 ∷ 3485 ∷ 3485 ∷ mark ∷ []
   -- "C6 scheme 1 there, size 2: worker 0 has one candidate, worker 1 two"
-  pub C6-first : length (share example CutCandidates 2 2 0) ≡ 1
-  pub C6-second : length (share example CutCandidates 2 2 1) ≡ 2
+  pub C6-first : length (share (example .graph) CutCandidates 2 2 0) ≡ 1
+  pub C6-second : length (share (example .graph) CutCandidates 2 2 1) ≡ 2
   -- "C7 N = 1: scan cost, no pairs"
   pub C7 : outcome (alone (loose (9 ∷ [])) (lend 1 1 0)) .answer ≡ record { refusal = 0; place = 0; best = 5; rows = 1; cells = 1; pairs = 0; counts = replicate 8 0 }
   -- "C8 N = 0: refusal 2"
@@ -133,7 +124,7 @@ pub record Cases : Type 0 where
   pub C10-six : verdict (alone example (lend 6 10 0)) ≡ refused 0
   pub C10-five : verdict (alone example (lend 5 10 0)) ≡ refused 13
   -- "C11 rows 0 estimates 1"
-  pub C11 : estimate (loose (0 ∷ [])) 1 ≡ 1
+  pub C11 : estimate (loose (0 ∷ []) .graph) 1 ≡ 1
   -- "C12 ten cells pass, nine give 14"
   pub C12-ten : verdict (alone example (lend 6 10 0)) ≡ refused 0
   pub C12-nine : verdict (alone example (lend 6 9 0)) ≡ refused 14

@@ -8,7 +8,7 @@ use Rattle.rules.specs.declared.NewScheme.the-variants.{Good}
 use Rattle.rules.specs.Limits.{maxTables, maxRows, maxScan, maxDivisor, maxMethods, maxFixed, maxCoefficient, maxWorkers}
 use Rattle.rules.specs.Kinds.{schemeOf}
 use Rattle.rules.specs.Sets.{full}
-use Rattle.rules.specs.Query.{Query, tableCount, edgeCount, methodCount, Joins}
+use Rattle.rules.specs.Query.{Graph, Query, tableCount, edgeCount, methodCount, Joins}
 use Rattle.rules.specs.Connected.{Connected}
 use Rattle.rules.specs.Rows.{memo}
 use Rattle.rules.specs.Skips.{skips}
@@ -16,16 +16,16 @@ use Rattle.rules.specs.Refusals.{Memory, Input}
 
 -- not 1: the lists of a query's records have their lengths
 pub record SameLengths (q : Query) : Type 0 where
-  pub scans : length (q .scans) ≡ tableCount q
-  pub right : length (q .right) ≡ edgeCount q
-  pub divisors : length (q .divisors) ≡ edgeCount q
+  pub scans : length (q .scans) ≡ tableCount (q .graph)
+  pub right : length (q .graph .right) ≡ edgeCount (q .graph)
+  pub divisors : length (q .graph .divisors) ≡ edgeCount (q .graph)
   pub outer : length (q .perOuter) ≡ methodCount q
   pub inner : length (q .perInner) ≡ methodCount q
   pub result : length (q .perResult) ≡ methodCount q
 
 -- not 3: table i, from 0
 pub record TableGood (q : Query) (i : ℕ) : Type 0 where
-  pub rows : getD (q .rows) i 0 ≤ maxRows
+  pub rows : getD (q .graph .rows) i 0 ≤ maxRows
   pub scan : getD (q .scans) i 0 ≤ maxScan
 
 -- not 5: method i, from 0
@@ -36,27 +36,27 @@ pub record MethodGood (q : Query) (i : ℕ) : Type 0 where
   pub result : getD (q .perResult) i 0 ≤ maxCoefficient
 
 -- not 6, 7, 8 and 9: edge i, from 0
-pub record EdgeGood (q : Query) (i : ℕ) : Type 0 where
-  pub left-some : 1 ≤ getD (q .left) i 0
-  pub left-known : getD (q .left) i 0 ≤ tableCount q
-  pub right-some : 1 ≤ getD (q .right) i 0
-  pub right-known : getD (q .right) i 0 ≤ tableCount q
-  pub different : getD (q .left) i 0 ≡ getD (q .right) i 0 → ⊥
-  pub divisor-some : 1 ≤ getD (q .divisors) i 0
-  pub divisor-fits : getD (q .divisors) i 0 ≤ maxDivisor
-  pub new : (j : ℕ) → j < i → Joins q j (getD (q .left) i 0) (getD (q .right) i 0) → ⊥
+pub record EdgeGood (g : Graph) (i : ℕ) : Type 0 where
+  pub left-some : 1 ≤ getD (g .left) i 0
+  pub left-known : getD (g .left) i 0 ≤ tableCount g
+  pub right-some : 1 ≤ getD (g .right) i 0
+  pub right-known : getD (g .right) i 0 ≤ tableCount g
+  pub different : getD (g .left) i 0 ≡ getD (g .right) i 0 → ⊥
+  pub divisor-some : 1 ≤ getD (g .divisors) i 0
+  pub divisor-fits : getD (g .divisors) i 0 ≤ maxDivisor
+  pub new : (j : ℕ) → j < i → Joins g j (getD (g .left) i 0) (getD (g .right) i 0) → ⊥
 
 -- a query that passes 1 to 10
 pub record Sound (q : Query) : Type 0 where
   pub lengths : SameLengths q
-  pub some-table : 1 ≤ tableCount q
-  pub few-tables : tableCount q ≤ maxTables
-  pub tables : (i : ℕ) → i < tableCount q → TableGood q i
+  pub some-table : 1 ≤ tableCount (q .graph)
+  pub few-tables : tableCount (q .graph) ≤ maxTables
+  pub tables : (i : ℕ) → i < tableCount (q .graph) → TableGood q i
   pub some-method : 1 ≤ methodCount q
   pub few-methods : methodCount q ≤ maxMethods
   pub methods : (i : ℕ) → i < methodCount q → MethodGood q i
-  pub edges : (i : ℕ) → i < edgeCount q → EdgeGood q i
-  pub connected : Connected q (full (tableCount q))
+  pub edges : (i : ℕ) → i < edgeCount (q .graph) → EdgeGood (q .graph) i
+  pub connected : Connected (q .graph) (full (tableCount (q .graph)))
 
 -- not 1: the columns of memo and log have their lengths
 pub record Columns (lent : Memory) : Type 0 where
@@ -85,5 +85,5 @@ pub record Checked (i : Input) : Type 0 where
 -- an input that passes 13 and 14 too
 pub record Accepted (i : Input) : Type 0 where
   pub checked : Checked i
-  pub rows : length (memo (i .query)) ≤ length (i .lent .sets)
-  pub cells : length (skips (i .query)) ≤ length (i .lent .skips)
+  pub rows : length (memo (i .query .graph)) ≤ length (i .lent .sets)
+  pub cells : length (skips (i .query .graph)) ≤ length (i .lent .skips)

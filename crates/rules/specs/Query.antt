@@ -1,4 +1,4 @@
--- A query as its lent lists: tables, edges ("join predicates") and methods (the "cost table").
+-- A query as its lent lists: tables and edges ("join predicates"), which are its graph, and methods (the "cost table").
 use mathlib.Core.Path.{_≡_}
 use mathlib.Core.Logic.{_⊎_}
 use mathlib.Core.List.{List}
@@ -6,34 +6,43 @@ use Prim.Native.Nat.{ℕ, _-_, _≤_, _<_}
 use lib.ListN.{length, getD}
 use Rattle.rules.specs.Sets.{holds}
 
-pub record Query : Type 0 where
-  -- "Each has rows .. and a scan cost": table t stands at t - 1
+-- tables and edges: all that connected sets and estimates look at
+pub record Graph : Type 0 where
+  -- "Each has rows": table t stands at t - 1
   pub rows : List ℕ
-  pub scans : List ℕ
   -- "Edges: two different tables and a divisor"
   pub left : List ℕ
   pub right : List ℕ
   pub divisors : List ℕ
+
+pub record Query : Type 0 where
+  pub graph : Graph
+  -- "and a scan cost": table t stands at t - 1
+  pub scans : List ℕ
   -- "a fixed cost .. and three coefficients": method m stands at m - 1
   pub fixed : List ℕ
   pub perOuter : List ℕ
   pub perInner : List ℕ
   pub perResult : List ℕ
 
--- N
-abbrev pub tableCount : Query → ℕ
-tableCount q = length (q .rows)
+-- from the lists as they are lent
+abbrev pub graphOf : List ℕ → List ℕ → List ℕ → List ℕ → Graph
+graphOf rows left right divisors = record { rows = rows; left = left; right = right; divisors = divisors }
 
-abbrev pub edgeCount : Query → ℕ
-edgeCount q = length (q .left)
+-- N
+abbrev pub tableCount : Graph → ℕ
+tableCount g = length (g .rows)
+
+abbrev pub edgeCount : Graph → ℕ
+edgeCount g = length (g .left)
 
 abbrev pub methodCount : Query → ℕ
 methodCount q = length (q .fixed)
 
 -- tables are "numbered from 1"
-pub record IsTable (q : Query) (t : ℕ) : Type 0 where
+pub record IsTable (g : Graph) (t : ℕ) : Type 0 where
   pub from-one : 1 ≤ t
-  pub to-count : t ≤ tableCount q
+  pub to-count : t ≤ tableCount g
 
 -- methods are "numbered from 1"
 pub record IsMethod (q : Query) (m : ℕ) : Type 0 where
@@ -45,19 +54,19 @@ abbrev pub at : List ℕ → ℕ → ℕ
 at l t = getD l (t - 1) 0
 
 -- edge i joins tables a and b, "whichever way round it is written"
-abbrev pub Joins : Query → ℕ → ℕ → ℕ → Type 0
-Joins q i a b = ((getD (q .left) i 0 ≡ a) × (getD (q .right) i 0 ≡ b)) ⊎ ((getD (q .left) i 0 ≡ b) × (getD (q .right) i 0 ≡ a))
+abbrev pub Joins : Graph → ℕ → ℕ → ℕ → Type 0
+Joins g i a b = ((getD (g .left) i 0 ≡ a) × (getD (g .right) i 0 ≡ b)) ⊎ ((getD (g .left) i 0 ≡ b) × (getD (g .right) i 0 ≡ a))
 
 -- some edge joins tables a and b
-pub record Linked (q : Query) (a b : ℕ) : Type 0 where
+pub record Linked (g : Graph) (a b : ℕ) : Type 0 where
   pub edge : ℕ
-  pub known : edge < edgeCount q
-  pub joins : Joins q edge a b
+  pub known : edge < edgeCount g
+  pub joins : Joins g edge a b
 
 -- "an edge runs between them": from a table of X to a table of Y
-pub record Between (q : Query) (X Y : ℕ) : Type 0 where
+pub record Between (g : Graph) (X Y : ℕ) : Type 0 where
   pub from : ℕ
   pub to : ℕ
   pub from-in : holds X from ≡ 1
   pub to-in : holds Y to ≡ 1
-  pub linked : Linked q from to
+  pub linked : Linked g from to

@@ -11,7 +11,7 @@ use Rattle.rules.specs.declared.NewCrew.{NewCrew}
 use Rattle.rules.specs.declared.NewCrew.the-variants.{Good, Refused}
 use Rattle.rules.specs.Lists.{isYes}
 use Rattle.rules.specs.Sets.{full}
-use Rattle.rules.specs.Query.{Query, tableCount, edgeCount, methodCount}
+use Rattle.rules.specs.Query.{Graph, Query, tableCount, edgeCount, methodCount}
 use Rattle.rules.specs.Estimate.{joinsAt}
 use Rattle.rules.specs.Rows.{memo}
 use Rattle.rules.specs.Skips.{skips}
@@ -77,8 +77,8 @@ logLengths lent = length (lent .logWorkers) ∷ length (lent .logDriving) ∷ le
 -- refusal 1: "lent lists holding fields of the same records": the lengths of those of tables, edges, methods, memo rows and log entries
 unfoldable pub groups : Query → List ℕ → List ℕ → List (List ℕ)
 groups q memoColumns logColumns =
-    (length (q .rows) ∷ length (q .scans) ∷ [])
-    ∷ (length (q .left) ∷ length (q .right) ∷ length (q .divisors) ∷ [])
+    (length (q .graph .rows) ∷ length (q .scans) ∷ [])
+    ∷ (length (q .graph .left) ∷ length (q .graph .right) ∷ length (q .graph .divisors) ∷ [])
     ∷ (length (q .fixed) ∷ length (q .perOuter) ∷ length (q .perInner) ∷ length (q .perResult) ∷ [])
     ∷ memoColumns
     ∷ logColumns
@@ -86,20 +86,20 @@ groups q memoColumns logColumns =
 
 -- refusal 3: "rows or scan cost of a table over its limit"
 unfoldable pub badTable : Query → ℕ → ℕ
-badTable q i = cond (tableFits (getD (q .rows) i 0) (getD (q .scans) i 0)) 0 3
+badTable q i = cond (tableFits (getD (q .graph .rows) i 0) (getD (q .scans) i 0)) 0 3
 
 -- refusal 5: "fixed cost or coefficient over its limit"
 unfoldable pub badMethod : Query → ℕ → ℕ
 badMethod q i = cond (methodFits (getD (q .fixed) i 0) (getD (q .perOuter) i 0) (getD (q .perInner) i 0) (getD (q .perResult) i 0)) 0 5
 
 -- one of the first n edges joins tables a and b
-unfoldable pub joinedBelow : Query → ℕ → ℕ → ℕ → Bool
-joinedBelow q a b zero = false
-joinedBelow q a b (suc n) = joinedBelow q a b n || joinsAt q a b n
+unfoldable pub joinedBelow : Graph → ℕ → ℕ → ℕ → Bool
+joinedBelow g a b zero = false
+joinedBelow g a b (suc n) = joinedBelow g a b n || joinsAt g a b n
 
 -- "edge repeats an earlier pair"
-unfoldable pub repeats : Query → ℕ → Bool
-repeats q i = joinedBelow q (getD (q .left) i 0) (getD (q .right) i 0) i
+unfoldable pub repeats : Graph → ℕ → Bool
+repeats g i = joinedBelow g (getD (g .left) i 0) (getD (g .right) i 0) i
 
 -- 9 is the last of an edge's refusals
 unfoldable pub edgeOr : ℕ → Bool → ℕ
@@ -107,8 +107,8 @@ edgeOr zero repeated = cond repeated 9 0
 edgeOr (suc n) repeated = suc n
 
 -- "Rows 6 to 9 are tried edge by edge."
-unfoldable pub badEdge : Query → ℕ → ℕ
-badEdge q i = edgeOr (edgeNumber (newEdge (tableCount q) (getD (q .left) i 0) (getD (q .right) i 0) (getD (q .divisors) i 0))) (repeats q i)
+unfoldable pub badEdge : Graph → ℕ → ℕ
+badEdge g i = edgeOr (edgeNumber (newEdge (tableCount g) (getD (g .left) i 0) (getD (g .right) i 0) (getD (g .divisors) i 0))) (repeats g i)
 
 -- refusal 11: "workers or scheme out of range"
 unfoldable pub isRefused : NewCrew → Bool
@@ -123,12 +123,12 @@ badTurn workers turns i = cond (ltb (getD turns i 0) workers) 0 12
 unfoldable pub checksOf : Query → ℕ → ℕ → List ℕ → List ℕ → List ℕ → List Verdict
 checksOf q workers scheme turns memoColumns logColumns =
     refuse 1 (not (allSame (groups q memoColumns logColumns)))
-    ∷ refuse 2 (not (tablesFit (tableCount q)))
-    ∷ firstBad (badTable q) 0 (tableCount q)
+    ∷ refuse 2 (not (tablesFit (tableCount (q .graph))))
+    ∷ firstBad (badTable q) 0 (tableCount (q .graph))
     ∷ refuse 4 (not (methodsFit (methodCount q)))
     ∷ firstBad (badMethod q) 0 (methodCount q)
-    ∷ firstBad (badEdge q) 0 (edgeCount q)
-    ∷ refuse 10 (not (isYes (connected? q (full (tableCount q)))))
+    ∷ firstBad (badEdge (q .graph)) 0 (edgeCount (q .graph))
+    ∷ refuse 10 (not (isYes (connected? (q .graph) (full (tableCount (q .graph))))))
     ∷ refuse 11 (isRefused (newCrew workers scheme))
     ∷ firstBad (badTurn workers turns) 0 (length turns)
     ∷ []
@@ -139,8 +139,8 @@ checks i = checksOf (i .query) (i .workers) (i .scheme) (i .turns) (memoLengths 
 -- refusals 13 and 14: "memo rows fewer than connected sets", "skip cells fewer than the sum of those sets' sizes"
 unfoldable pub rooms : Input → List Verdict
 rooms i =
-    refuse 13 (ltb (length (i .lent .sets)) (length (memo (i .query))))
-    ∷ refuse 14 (ltb (length (i .lent .skips)) (length (skips (i .query))))
+    refuse 13 (ltb (length (i .lent .sets)) (length (memo (i .query .graph))))
+    ∷ refuse 14 (ltb (length (i .lent .skips)) (length (skips (i .query .graph))))
     ∷ []
 
 -- "Checked in this order."

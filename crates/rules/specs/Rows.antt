@@ -7,7 +7,7 @@ use Prim.Native.Nat.{ℕ, zero, suc, _<_}
 use lib.Dec.{eqb, ltb}
 use Rattle.rules.specs.Lists.{keep, isYes, inRow}
 use Rattle.rules.specs.Sets.{number}
-use Rattle.rules.specs.Query.{Query, tableCount}
+use Rattle.rules.specs.Query.{Graph, tableCount}
 use Rattle.rules.specs.laws.Decide.{connected?}
 
 -- sequences "compared as numbers", place by place
@@ -36,13 +36,13 @@ combos (suc k) t zero = []
 combos (suc k) t (suc n) = map (λ (s : List ℕ). t ∷ s) (combos k (suc t) n) ++ combos (suc k) (suc t) n
 
 -- the sequences of the connected sets of k tables
-unfoldable pub sequences : Query → ℕ → List (List ℕ)
-sequences q k = keep (λ (s : List ℕ). isYes (connected? q (number s))) (combos k 1 (tableCount q))
+unfoldable pub sequences : Graph → ℕ → List (List ℕ)
+sequences g k = keep (λ (s : List ℕ). isYes (connected? g (number s))) (combos k 1 (tableCount g))
 
 -- the sets of the memo's rows of size k
-unfoldable pub rowsOf : Query → ℕ → List ℕ
-rowsOf q k = map number (sequences q k)
+unfoldable pub rowsOf : Graph → ℕ → List ℕ
+rowsOf g k = map number (sequences g k)
 
 -- all rows of the memo, by size
-unfoldable pub memo : Query → List ℕ
-memo q = inRow (rowsOf q) 1 (tableCount q)
+unfoldable pub memo : Graph → List ℕ
+memo g = inRow (rowsOf g) 1 (tableCount g)

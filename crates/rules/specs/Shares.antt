@@ -7,7 +7,7 @@ use lib.ListN.{length}
 use Rattle.rules.specs.declared.Scheme.{Scheme}
 use Rattle.rules.specs.declared.Scheme.the-variants.{CutCandidates, CutRows, DealRows, DealInner}
 use Rattle.rules.specs.Lists.{keep}
-use Rattle.rules.specs.Query.{Query}
+use Rattle.rules.specs.Query.{Graph}
 use Rattle.rules.specs.Candidates.{Candidate, candidates, joinable}
 
 -- a candidate with its number: "All T candidates of size S numbered from 0"
@@ -35,13 +35,13 @@ owns DealRows T m w x = eqb (x .candidate .row % m) w
 owns DealInner T m w x = eqb (x .candidate .count % m) w
 
 -- the candidates of result size s, numbered
-unfoldable pub met : Query → ℕ → List Numbered
-met q s = numbered 0 (candidates q s)
+unfoldable pub met : Graph → ℕ → List Numbered
+met g s = numbered 0 (candidates g s)
 
 -- worker w's share of result size s, "before any test"
-unfoldable pub share : Query → Scheme → ℕ → ℕ → ℕ → List Numbered
-share q scheme m s w = keep (owns scheme (length (met q s)) m w) (met q s)
+unfoldable pub share : Graph → Scheme → ℕ → ℕ → ℕ → List Numbered
+share g scheme m s w = keep (owns scheme (length (met g s)) m w) (met g s)
 
 -- the joinable pairs of worker w's share, in the order in which it is to have them
-unfoldable pub queue : Query → Scheme → ℕ → ℕ → ℕ → List Numbered
-queue q scheme m s w = keep (λ (x : Numbered). joinable q (x .candidate)) (share q scheme m s w)
+unfoldable pub queue : Graph → Scheme → ℕ → ℕ → ℕ → List Numbered
+queue g scheme m s w = keep (λ (x : Numbered). joinable g (x .candidate)) (share g scheme m s w)

@@ -6,7 +6,7 @@ use Prim.Native.Nat.{ℕ, zero, suc, _+_, _≤_, _<_}
 use lib.ListN.{length, getD}
 use Rattle.rules.specs.Lists.{inRow}
 use Rattle.rules.specs.Sets.{holds, has, tables}
-use Rattle.rules.specs.Query.{Query, tableCount}
+use Rattle.rules.specs.Query.{Graph, tableCount}
 use Rattle.rules.specs.Rows.{rowsOf}
 
 -- the row numbered k, "from 1", of the rows of one size
@@ -32,9 +32,9 @@ vectorsFrom n i [] = []
 vectorsFrom n i (S ∷ rest) = map (λ (t : ℕ). skipFrom t (suc i) rest) (tables n S) ++ vectorsFrom n (suc i) rest
 
 -- the skip table of size k: "rows of one size are numbered from 1"
-unfoldable pub vectors : Query → ℕ → List ℕ
-vectors q k = vectorsFrom (tableCount q) 1 (rowsOf q k)
+unfoldable pub vectors : Graph → ℕ → List ℕ
+vectors g k = vectorsFrom (tableCount g) 1 (rowsOf g k)
 
 -- "Vectors for all sizes, N included, stand one after another in memo order"
-unfoldable pub skips : Query → List ℕ
-skips q = inRow (vectors q) 1 (tableCount q)
+unfoldable pub skips : Graph → List ℕ
+skips g = inRow (vectors g) 1 (tableCount g)

@@ -5,7 +5,7 @@ use Rattle.rules.specs.declared.JoinStep.{JoinStep}
 use Rattle.rules.specs.declared.Step.{Step}
 use Rattle.rules.specs.declared.Step.the-variants.{Scan, Join}
 use Rattle.rules.specs.Sets.{Disjoint, Splits, single}
-use Rattle.rules.specs.Query.{Query, IsTable, IsMethod, Between, at}
+use Rattle.rules.specs.Query.{Graph, Query, IsTable, IsMethod, Between, at}
 use Rattle.rules.specs.Estimate.{estimate}
 
 -- "A step of a plan is a scan of one table or a join": outer part, inner part, method
@@ -24,18 +24,18 @@ stepOf (scan t) = Scan t
 stepOf (join x y m) = Join (record { outer = tablesOf x; inner = tablesOf y; method = m })
 
 -- outer X and inner Y may be joined: they "are disjoint .. and have an edge between them"
-pub record Joinable (q : Query) (X Y : ℕ) : Type 0 where
+pub record Joinable (g : Graph) (X Y : ℕ) : Type 0 where
   pub apart : Disjoint X Y
-  pub between : Between q X Y
+  pub between : Between g X Y
 
 -- "Both parts of a join are disjoint, connected, and have an edge between them." That they are connected follows: laws.Connected, connected-tree.
 unfoldable pub Valid : Query → Tree → Type 0
-Valid q (scan t) = IsTable q t
-Valid q (join x y m) = Valid q x × Valid q y × Joinable q (tablesOf x) (tablesOf y) × IsMethod q m
+Valid q (scan t) = IsTable (q .graph) t
+Valid q (join x y m) = Valid q x × Valid q y × Joinable (q .graph) (tablesOf x) (tablesOf y) × IsMethod q m
 
 -- "fixed + a·est(X) + b·est(Y) + c·est(X and Y together)"
 unfoldable pub price : Query → ℕ → ℕ → ℕ → ℕ
-price q X Y m = at (q .fixed) m + at (q .perOuter) m * estimate q X + at (q .perInner) m * estimate q Y + at (q .perResult) m * estimate q (X + Y)
+price q X Y m = at (q .fixed) m + at (q .perOuter) m * estimate (q .graph) X + at (q .perInner) m * estimate (q .graph) Y + at (q .perResult) m * estimate (q .graph) (X + Y)
 
 -- "Cost of one table is its scan cost. A join of outer X and inner Y costs cost(X) + cost(Y) + .."
 unfoldable pub costOf : Query → Tree → ℕ
@@ -57,7 +57,7 @@ pub record Reaches (q : Query) (S x m : ℕ) : Type 0 where
   pub inner-cost : ℕ
   pub outer-best : Least q x outer-cost
   pub inner-best : Least q inner inner-cost
-  pub joinable : Joinable q x inner
+  pub joinable : Joinable (q .graph) x inner
   pub whole : x + inner ≡ S
   pub method : IsMethod q m
   pub reaches : Least q S (outer-cost + inner-cost + price q x inner m)

@@ -17,11 +17,8 @@ first = alone example (lend 7 11 0)
 
 abbrev pub second : Input
 second = alone (record {
-  rows = example .rows;
+  graph = example .graph;
   scans = 100 ∷ 11 ∷ 1000 ∷ [];
-  left = example .left;
-  right = example .right;
-  divisors = example .divisors;
   fixed = example .fixed;
   perOuter = example .perOuter;
   perInner = example .perInner;

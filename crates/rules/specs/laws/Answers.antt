@@ -69,26 +69,26 @@ pub record SameMemo (a b : Memory) : Type 0 where
 -- what a memo holds is settled by the query and by what it held
 filled-unique : {q : Query} {before before′ a b : Memory} → SameMemo before before′ → Filled q before a → Filled q before′ b → SameMemo a b
 filled-unique {q} {before} {before′} {a} {b} e f g = record {
-  sets = f .sets ∙ ap (over (memo q)) (e .sets) ∙ sym (g .sets);
-  estimates = f .estimates ∙ ap (over (map (estimate q) (memo q))) (e .estimates) ∙ sym (g .estimates);
+  sets = f .sets ∙ ap (over (memo (q .graph))) (e .sets) ∙ sym (g .sets);
+  estimates = f .estimates ∙ ap (over (map (estimate (q .graph)) (memo (q .graph)))) (e .estimates) ∙ sym (g .estimates);
   costs = spared-unique (rw (e .costs) at (f .costs)) (g .costs) (λ j l. row-unique (f .rows j l) (g .rows j l) .0);
   outers = spared-unique (rw (e .outers) at (f .outers)) (g .outers) (λ j l. row-unique (f .rows j l) (g .rows j l) .1);
   methods = spared-unique (rw (e .methods) at (f .methods)) (g .methods) (λ j l. row-unique (f .rows j l) (g .rows j l) .2);
-  skips = f .skips ∙ ap (over (skips q)) (e .skips) ∙ sym (g .skips);
+  skips = f .skips ∙ ap (over (skips (q .graph))) (e .skips) ∙ sym (g .skips);
 }
 
 -- THE CREW DOES NOT COUNT: memo, skip tables and plan are the same for all workers, schemes, lists of turns and logs
 pub crew-free : {i i′ : Input} {o o′ : Outcome} → i .query ≡ i′ .query → SameMemo (i .lent) (i′ .lent) → Given i o → Given i′ o′ → SameMemo (o .left) (o′ .left) × (o .answer .best ≡ o′ .answer .best)
 crew-free {i} {i′} {o} {o′} e l g g′ =
     let m : Filled (i′ .query) (i .lent) (o .left) = rw e at (g .memory) in
-    let b : Least (i′ .query) (full (tableCount (i′ .query))) (o .answer .best) = rw e at (g .answer .best) in
+    let b : Least (i′ .query) (full (tableCount (i′ .query .graph))) (o .answer .best) = rw e at (g .answer .best) in
     (filled-unique l m (g′ .memory), least-unique b (g′ .answer .best))
 
 -- what the turns hand is settled by the input
 hands-unique : {i : Input} {h h′ : List (Hand Numbered)} → InTurn i h → InTurn i h′ → h ≡ h′
 hands-unique {i} {h} {h′} t t′ =
     let e : t .scheme ≡ t′ .scheme = cc (t .named, t′ .named) in
-    sizes-unique (i .workers) (queue (i .query) (t′ .scheme) (i .workers)) 2 (tableCount (i .query) - 1) (i .turns) h h′ (rw e at (t .sizes)) (t′ .sizes)
+    sizes-unique (i .workers) (queue (i .query .graph) (t′ .scheme) (i .workers)) 2 (tableCount (i .query .graph) - 1) (i .turns) h h′ (rw e at (t .sizes)) (t′ .sizes)
 
 -- ANY TWO PLANS of one input are equal
 given-unique : {i : Input} {o o′ : Outcome} → Given i o → Given i o′ → o ≡ o′
@@ -179,7 +179,7 @@ each-at-zero f v (suc n) (suc w) h = each-at-zero f (suc v) n w (λ k l. h k (om
 module _ {i : Input} {o : Outcome} (e : verdict i .number ≡ 0) (g : Given i o) where
   handed-below : Below (i .workers) (g .handed)
   handed-below =
-      sizes-below (i .workers) (queue (i .query) (g .turns .scheme) (i .workers)) 2 (tableCount (i .query) - 1) (i .turns) (g .handed)
+      sizes-below (i .workers) (queue (i .query .graph) (g .turns .scheme) (i .workers)) 2 (tableCount (i .query .graph) - 1) (i .turns) (g .handed)
       (entries-of (i .workers) (i .turns) (accepted i e .checked .turns)) (g .turns .sizes)
 
   -- "The eight sum to the number of pairs."

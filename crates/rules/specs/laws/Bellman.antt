@@ -7,7 +7,7 @@ use Rattle.rules.specs.laws.Choice.{Choice, NoLater, Best}
 use Rattle.rules.specs.Sets.{size}
 use Rattle.rules.specs.laws.Sets.{size-sum, size-pow, size-pos, holds-pos}
 use lib.Pow.{pow-pos}
-use Rattle.rules.specs.Query.{Query, IsMethod, Between}
+use Rattle.rules.specs.Query.{Graph, Query, IsMethod, Between}
 use Rattle.rules.specs.Connected.{Connected}
 use Rattle.rules.specs.Trees.{Tree, scan, join, tablesOf, Joinable, Valid, price, costOf, Least, Reaches, Pick}
 use Rattle.rules.specs.laws.Connected.{connected-tree}
@@ -16,9 +16,9 @@ module _ (q : Query) (best : ℕ → ℕ) where
   -- outer part k.outer joined with an inner part, of cost k.cost by the table `best`
   pub record Offer (S : ℕ) (k : Choice) : Type 0 where
     pub other : ℕ
-    pub outer-conn : Connected q (k .outer)
-    pub inner-conn : Connected q other
-    pub joinable : Joinable q (k .outer) other
+    pub outer-conn : Connected (q .graph) (k .outer)
+    pub inner-conn : Connected (q .graph) other
+    pub joinable : Joinable (q .graph) (k .outer) other
     pub whole : k .outer + other ≡ S
     pub method : IsMethod q (k .method)
     pub costs : k .cost ≡ best (k .outer) + best other + price q (k .outer) other (k .method)
@@ -29,11 +29,11 @@ unfolding tablesOf
 tablesOf-pos (scan t) = pow-pos (t - 1)
 tablesOf-pos (join x y m) = omega (arith, tablesOf-pos x, tablesOf-pos y)
 
-between-left : (q : Query) (X Y : ℕ) → Between q X Y → 0 < X
-between-left q X Y h = holds-pos X (h .from) (h .from-in)
+between-left : (g : Graph) (X Y : ℕ) → Between g X Y → 0 < X
+between-left g X Y h = holds-pos X (h .from) (h .from-in)
 
-between-right : (q : Query) (X Y : ℕ) → Between q X Y → 0 < Y
-between-right q X Y h = holds-pos Y (h .to) (h .to-in)
+between-right : (g : Graph) (X Y : ℕ) → Between g X Y → 0 < Y
+between-right g X Y h = holds-pos Y (h .to) (h .to-in)
 
 -- the least cost of a set is one number
 pub least-unique : {q : Query} {S c c′ : ℕ} → Least q S c → Least q S c′ → c ≡ c′
@@ -46,17 +46,17 @@ pick-unique {q} {S} {x} {m} {x′} {m′} p p′ = (outer, le-antisymm (p .metho
     outer : x ≡ x′
     outer = le-antisymm (p .outer-first x′ m′ (p′ .among)) (p′ .outer-first x m (p .among))
 
-module _ (q : Query) (best : ℕ → ℕ) (S : ℕ) (two : 2 ≤ size S) (parts : (Y : ℕ) → Connected q Y → size Y < size S → Least q Y (best Y)) where
+module _ (q : Query) (best : ℕ → ℕ) (S : ℕ) (two : 2 ≤ size S) (parts : (Y : ℕ) → Connected (q .graph) Y → size Y < size S → Least q Y (best Y)) where
   -- both parts of an offer are smaller than S, so that `best` is their least cost
   module _ {k : Choice} (o : Offer q best S k) where
     offer-sizes : size (k .outer) + size (o .other) ≡ size S
     offer-sizes = sym (size-sum (k .outer) (o .other) (o .joinable .apart)) ∙ ap size (o .whole)
 
     offer-outer : Least q (k .outer) (best (k .outer))
-    offer-outer = parts (k .outer) (o .outer-conn) (omega (arith, offer-sizes, size-pos (o .other) (between-right q (k .outer) (o .other) (o .joinable .between))))
+    offer-outer = parts (k .outer) (o .outer-conn) (omega (arith, offer-sizes, size-pos (o .other) (between-right (q .graph) (k .outer) (o .other) (o .joinable .between))))
 
     offer-inner : Least q (o .other) (best (o .other))
-    offer-inner = parts (o .other) (o .inner-conn) (omega (arith, offer-sizes, size-pos (k .outer) (between-left q (k .outer) (o .other) (o .joinable .between))))
+    offer-inner = parts (o .other) (o .inner-conn) (omega (arith, offer-sizes, size-pos (k .outer) (between-left (q .graph) (k .outer) (o .other) (o .joinable .between))))
 
     -- the tree that joins best trees of the two parts
     offer-tree : Tree

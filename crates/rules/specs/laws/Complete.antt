@@ -13,7 +13,7 @@ use borrow.Author.Tests.{eqb-true, eq-eqb}
 use Rattle.rules.specs.declared.Scheme.{Scheme}
 use Rattle.rules.specs.Lists.{keep, isYes}
 use Rattle.rules.specs.Sets.{Disjoint, Splits, size, holds}
-use Rattle.rules.specs.Query.{Query, tableCount}
+use Rattle.rules.specs.Query.{Graph, tableCount}
 use Rattle.rules.specs.Connected.{Connected}
 use Rattle.rules.specs.Trees.{Joinable}
 use Rattle.rules.specs.Rows.{rowsOf}
@@ -34,95 +34,95 @@ use Rattle.rules.specs.laws.Turns.{Entries, Below, run-below, run-queues
 use Rattle.rules.specs.laws.Hands.{HandedBy, run-all, run-only, run-once}
 
 -- ---- joinable, as a fact
-joinable-true : (q : Query) (c : Candidate) → joinable q c ≡ true → Joinable q (c .driving) (c .inner)
+joinable-true : (g : Graph) (c : Candidate) → joinable g c ≡ true → Joinable g (c .driving) (c .inner)
 unfolding joinable
-joinable-true q c e = record {
-  apart = eqb-true (bitAnd (c .driving) (c .inner)) 0 (and-true-l (eqb (bitAnd (c .driving) (c .inner)) 0) (isYes (between? q (c .driving) (c .inner))) e);
-  between = yes-true (between? q (c .driving) (c .inner)) (and-true-r (eqb (bitAnd (c .driving) (c .inner)) 0) (isYes (between? q (c .driving) (c .inner))) e);
+joinable-true g c e = record {
+  apart = eqb-true (bitAnd (c .driving) (c .inner)) 0 (and-true-l (eqb (bitAnd (c .driving) (c .inner)) 0) (isYes (between? g (c .driving) (c .inner))) e);
+  between = yes-true (between? g (c .driving) (c .inner)) (and-true-r (eqb (bitAnd (c .driving) (c .inner)) 0) (isYes (between? g (c .driving) (c .inner))) e);
 }
 
-true-joinable : (q : Query) (c : Candidate) → Joinable q (c .driving) (c .inner) → joinable q c ≡ true
+true-joinable : (g : Graph) (c : Candidate) → Joinable g (c .driving) (c .inner) → joinable g c ≡ true
 unfolding joinable
-true-joinable q c j =
-    and-true (eqb (bitAnd (c .driving) (c .inner)) 0) (isYes (between? q (c .driving) (c .inner))) (eq-eqb (bitAnd (c .driving) (c .inner)) 0 (j .apart))
-    (true-yes (between? q (c .driving) (c .inner)) (j .between))
+true-joinable g c j =
+    and-true (eqb (bitAnd (c .driving) (c .inner)) 0) (isYes (between? g (c .driving) (c .inner))) (eq-eqb (bitAnd (c .driving) (c .inner)) 0 (j .apart))
+    (true-yes (between? g (c .driving) (c .inner)) (j .between))
 
 -- a pair of sets is met ONE WAY ROUND, ONCE
-pub pair-once : (q : Query) (s : ℕ) (x y : Numbered) → List·Memᴰ x (met q s) → List·Memᴰ y (met q s) → SameSets (x .candidate) (y .candidate) → x ≡ y
+pub pair-once : (g : Graph) (s : ℕ) (x y : Numbered) → List·Memᴰ x (met g s) → List·Memᴰ y (met g s) → SameSets (x .candidate) (y .candidate) → x ≡ y
 unfolding met candidates
-pair-once q s x y m n p =
-    numbered-pair 0 (candidates q s) (candidates-apart (rowsOf q) s (rows-once q) (λ j k Z a b. sym (rows-only q j Z a .1) ∙ rows-only q k Z b .1)) x y m n p
+pair-once g s x y m n p =
+    numbered-pair 0 (candidates g s) (candidates-apart (rowsOf g) s (rows-once g) (λ j k Z a b. sym (rows-only g j Z a .1) ∙ rows-only g k Z b .1)) x y m n p
 
 -- ---- the turns of result size s
-module _ (q : Query) (scheme : Scheme) (m s : ℕ) where
+module _ (g : Graph) (scheme : Scheme) (m s : ℕ) where
   -- worker w has the candidate and may join it
   unfoldable pub mine : ℕ → Numbered → Bool
-  mine w x = owns scheme (length (met q s)) m w x && joinable q (x .candidate)
+  mine w x = owns scheme (length (met g s)) m w x && joinable g (x .candidate)
 
-  pub queue-mine : queue q scheme m s ≡ (λ w. keep (mine w) (met q s))
+  pub queue-mine : queue g scheme m s ≡ (λ w. keep (mine w) (met g s))
   unfolding queue share mine
-  queue-mine = fun-ext (λ w. keep-both (owns scheme (length (met q s)) m w) (λ (x : Numbered). joinable q (x .candidate)) (met q s))
+  queue-mine = fun-ext (λ w. keep-both (owns scheme (length (met g s)) m w) (λ (x : Numbered). joinable g (x .candidate)) (met g s))
 
   -- every candidate that is met has one worker
-  pub met-one : 0 < m → (x : Numbered) → List·Memᴰ x (met q s) → One (λ w. owns scheme (length (met q s)) m w x) m
+  pub met-one : 0 < m → (x : Numbered) → List·Memᴰ x (met g s) → One (λ w. owns scheme (length (met g s)) m w x) m
   unfolding met candidates
   met-one l x i =
-      let r = numbered-of 0 (candidates q s) x i in
-      owns-one scheme (length (met q s)) m x l (omega (arith, r .2, numbered-length 0 (candidates q s))) (met-of (rowsOf q) s (x .candidate) (r .0) .behind .row)
+      let r = numbered-of 0 (candidates g s) x i in
+      owns-one scheme (length (met g s)) m x l (omega (arith, r .2, numbered-length 0 (candidates g s))) (met-of (rowsOf g) s (x .candidate) (r .0) .behind .row)
 
-  mine-one : 0 < m → (x : Numbered) → List·Memᴰ x (met q s) → joinable q (x .candidate) ≡ true → One (λ w. mine w x) m
+  mine-one : 0 < m → (x : Numbered) → List·Memᴰ x (met g s) → joinable g (x .candidate) ≡ true → One (λ w. mine w x) m
   unfolding mine
   mine-one l x i j =
       let o = met-one l x i in
       record {
         who = o .who;
         worker = o .worker;
-        yes-it = and-true (owns scheme (length (met q s)) m (o .who) x) (joinable q (x .candidate)) (o .yes-it) j;
-        no-other = λ v e. o .no-other v (and-true-l (owns scheme (length (met q s)) m v x) (joinable q (x .candidate)) e);
+        yes-it = and-true (owns scheme (length (met g s)) m (o .who) x) (joinable g (x .candidate)) (o .yes-it) j;
+        no-other = λ v e. o .no-other v (and-true-l (owns scheme (length (met g s)) m v x) (joinable g (x .candidate)) e);
       }
 
-  module _ {ts u : List ℕ} {h : List (Hand Numbered)} (workers : 0 < m) (t : Entries m ts) (run : Run m (queue q scheme m s) ts h u) where
-    run-mine : Run m (λ w. keep (mine w) (met q s)) ts h u
+  module _ {ts u : List ℕ} {h : List (Hand Numbered)} (workers : 0 < m) (t : Entries m ts) (run : Run m (queue g scheme m s) ts h u) where
+    run-mine : Run m (λ w. keep (mine w) (met g s)) ts h u
     run-mine = rw queue-mine at run
 
     -- each worker hands ITS QUEUE, IN ORDER
-    pub hands-queue : (w : ℕ) → w < m → only w h ≡ queue q scheme m s w
+    pub hands-queue : (w : ℕ) → w < m → only w h ≡ queue g scheme m s w
     hands-queue w l = run-queues run w l
 
     -- each joinable candidate is handed BY ITS OWN WORKER
-    pub hands-all : (x : Numbered) → List·Memᴰ x (met q s) → joinable q (x .candidate) ≡ true → (o : One (λ w. owns scheme (length (met q s)) m w x) m) → HandedBy (o .who) x h
+    pub hands-all : (x : Numbered) → List·Memᴰ x (met g s) → joinable g (x .candidate) ≡ true → (o : One (λ w. owns scheme (length (met g s)) m w x) m) → HandedBy (o .who) x h
     unfolding mine
-    hands-all x i j o = run-all mine (met q s) run-mine x i (record {
+    hands-all x i j o = run-all mine (met g s) run-mine x i (record {
       who = o .who;
       worker = o .worker;
-      yes-it = and-true (owns scheme (length (met q s)) m (o .who) x) (joinable q (x .candidate)) (o .yes-it) j;
-      no-other = λ v e. o .no-other v (and-true-l (owns scheme (length (met q s)) m v x) (joinable q (x .candidate)) e);
+      yes-it = and-true (owns scheme (length (met g s)) m (o .who) x) (joinable g (x .candidate)) (o .yes-it) j;
+      no-other = λ v e. o .no-other v (and-true-l (owns scheme (length (met g s)) m v x) (joinable g (x .candidate)) e);
     })
 
     -- NOTHING ELSE is handed, and by nobody else
-    pub hands-only : (x : Hand Numbered) → List·Memᴰ x h → List·Memᴰ (x .candidate) (met q s) × (owns scheme (length (met q s)) m (x .worker) (x .candidate) ≡ true) × (joinable q (x .candidate .candidate) ≡ true)
+    pub hands-only : (x : Hand Numbered) → List·Memᴰ x h → List·Memᴰ (x .candidate) (met g s) × (owns scheme (length (met g s)) m (x .worker) (x .candidate) ≡ true) × (joinable g (x .candidate .candidate) ≡ true)
     unfolding mine
     hands-only x i =
-        let r = run-only mine (met q s) run-mine t x i in
-        let a = owns scheme (length (met q s)) m (x .worker) (x .candidate) in
-        let b = joinable q (x .candidate .candidate) in
+        let r = run-only mine (met g s) run-mine t x i in
+        let a = owns scheme (length (met g s)) m (x .worker) (x .candidate) in
+        let b = joinable g (x .candidate .candidate) in
         (r .0, and-true-l a b (r .1), and-true-r a b (r .1))
 
     -- and nothing TWICE
     pub hands-once : Once (map (λ (x : Hand Numbered). x .candidate) h)
     unfolding mine met
-    hands-once = run-once mine (met q s) run-mine t (numbered-once 0 (candidates q s)) (λ v w x i a b.
+    hands-once = run-once mine (met g s) run-mine t (numbered-once 0 (candidates g s)) (λ v w x i a b.
         let o = met-one workers x i in
-        o .no-other v (and-true-l (owns scheme (length (met q s)) m v x) (joinable q (x .candidate)) a)
-        ∙ sym (o .no-other w (and-true-l (owns scheme (length (met q s)) m w x) (joinable q (x .candidate)) b)))
+        o .no-other v (and-true-l (owns scheme (length (met g s)) m v x) (joinable g (x .candidate)) a)
+        ∙ sym (o .no-other w (and-true-l (owns scheme (length (met g s)) m w x) (joinable g (x .candidate)) b)))
 
     -- a joinable pair that the size meets is handed
-    handed-of : (X Y : ℕ) → Joinable q X Y → Has X Y (candidates q s) → List·Memᴰ (record { driving = X; inner = Y }) (map pairOf h)
+    handed-of : (X Y : ℕ) → Joinable g X Y → Has X Y (candidates g s) → List·Memᴰ (record { driving = X; inner = Y }) (map pairOf h)
     unfolding met
-    handed-of X Y j p = Memᴰ·cast same (Memᴰ·map pairOf (g .met))
+    handed-of X Y j p = Memᴰ·cast same (Memᴰ·map pairOf (found .met))
       where
-        n : (x : Numbered) × List·Memᴰ x (numbered 0 (candidates q s)) × (x .candidate ≡ p .one)
-        n = numbered-in 0 (candidates q s) (p .one) (p .met)
+        n : (x : Numbered) × List·Memᴰ x (numbered 0 (candidates g s)) × (x .candidate ≡ p .one)
+        n = numbered-in 0 (candidates g s) (p .one) (p .met)
 
         eX : n .0 .candidate .driving ≡ X
         eX = ap (λ (c : Candidate). c .driving) (n .2) ∙ p .driving
@@ -130,26 +130,26 @@ module _ (q : Query) (scheme : Scheme) (m s : ℕ) where
         eY : n .0 .candidate .inner ≡ Y
         eY = ap (λ (c : Candidate). c .inner) (n .2) ∙ p .inner
 
-        g : HandedBy (met-one workers (n .0) (n .1) .who) (n .0) h
-        g = hands-all (n .0) (n .1) (true-joinable q (n .0 .candidate) (rw (eX, eY) j)) (met-one workers (n .0) (n .1))
+        found : HandedBy (met-one workers (n .0) (n .1) .who) (n .0) h
+        found = hands-all (n .0) (n .1) (true-joinable g (n .0 .candidate) (rw (eX, eY) j)) (met-one workers (n .0) (n .1))
 
-        same : record { driving = X; inner = Y } ≡ pairOf (g .by)
+        same : record { driving = X; inner = Y } ≡ pairOf (found .by)
         same = λ i. record {
-          driving = sym (ap (λ (x : Numbered). x .candidate .driving) (g .candidate) ∙ eX) i;
-          inner = sym (ap (λ (x : Numbered). x .candidate .inner) (g .candidate) ∙ eY) i;
+          driving = sym (ap (λ (x : Numbered). x .candidate .driving) (found .candidate) ∙ eX) i;
+          inner = sym (ap (λ (x : Numbered). x .candidate .inner) (found .candidate) ∙ eY) i;
         }
 
     -- each pair handed is joinable, and its two sets make s tables
-    pub joinable-of : (best : ℕ → ℕ) (x : Hand Numbered) → List·Memᴰ x h → JoinablePair q best (pairOf x)
+    pub joinable-of : (x : Hand Numbered) → List·Memᴰ x h → JoinablePair g (pairOf x)
     unfolding met candidates
-    joinable-of best x i =
+    joinable-of x i =
         let r = hands-only x i in
         let c = x .candidate .candidate in
-        let b = met-of (rowsOf q) s c (numbered-of 0 (candidatesOf (rowsOf q) s) (x .candidate) (r .0) .0) in
+        let b = met-of (rowsOf g) s c (numbered-of 0 (candidatesOf (rowsOf g) s) (x .candidate) (r .0) .0) in
         record {
-          driving-conn = rows-only q (b .size) (c .driving) (b .behind .driving) .0;
-          inner-conn = rows-only q (s - b .size) (c .inner) (b .behind .inner) .0;
-          joinable = joinable-true q c (r .2);
+          driving-conn = rows-only g (b .size) (c .driving) (b .behind .driving) .0;
+          inner-conn = rows-only g (s - b .size) (c .inner) (b .behind .inner) .0;
+          joinable = joinable-true g c (r .2);
         }
 
     apart-differ : (X Y : ℕ) → 0 < X → Disjoint X Y → X ≡ Y → ⊥
@@ -158,14 +158,14 @@ module _ (q : Query) (scheme : Scheme) (m s : ℕ) where
         omega (arith, holds-apart X Y (a .0) d, a .1, ap (λ (z : ℕ). holds z (a .0)) e)
 
     -- THE SIZE IS COMPLETE: all pairs of each set of s tables, one way round, and no other
-    pub size-complete : (best : ℕ → ℕ) (S : ℕ) → size S ≡ s → Complete q best (map pairOf h) S
+    pub size-complete : (S : ℕ) → size S ≡ s → Complete g (map pairOf h) S
     unfolding candidates
-    size-complete best S e = record { sound = sound; total = total }
+    size-complete S e = record { sound = sound; total = total }
       where
-        sound : (p : Pair) → List·Memᴰ p (map pairOf h) → union p ≡ S → JoinablePair q best p
-        sound p i w = let o = Memᴰ·of-map pairOf h i in rw (o .2) at (joinable-of best (o .0) (o .1))
+        sound : (p : Pair) → List·Memᴰ p (map pairOf h) → union p ≡ S → JoinablePair g p
+        sound p i w = let o = Memᴰ·of-map pairOf h i in rw (o .2) at (joinable-of (o .0) (o .1))
 
-        total : (p : Pair) → JoinablePair q best p → union p ≡ S → List·Memᴰ p (map pairOf h) ⊎ List·Memᴰ (record { driving = p .inner; inner = p .driving }) (map pairOf h)
+        total : (p : Pair) → JoinablePair g p → union p ≡ S → List·Memᴰ p (map pairOf h) ⊎ List·Memᴰ (record { driving = p .inner; inner = p .driving }) (map pairOf h)
         total p j w =
             let X = p .driving in
             let Y = p .inner in
@@ -173,7 +173,7 @@ module _ (q : Query) (scheme : Scheme) (m s : ℕ) where
             let cy = j .inner-conn in
             let sp : Splits S X Y = record { apart = j .joinable .apart; whole = w } in
             ⊎-elim (λ a. inl (handed-of X Y (j .joinable) a)) (λ a. inr (handed-of Y X (joinable-sym (j .joinable)) a))
-            (candidates-all (rowsOf q) s (size X) (size Y) X Y (size-pos X (cx .some)) (size-pos Y (cy .some)) (sym (splits-size sp) ∙ e) (rows-all q X cx) (rows-all q Y cy)
+            (candidates-all (rowsOf g) s (size X) (size Y) X Y (size-pos X (cx .some)) (size-pos Y (cy .some)) (sym (splits-size sp) ∙ e) (rows-all g X cx) (rows-all g Y cy)
             (apart-differ X Y (cx .some) (j .joinable .apart)))
 
 -- ---- all sizes, one after another
@@ -198,16 +198,16 @@ map-append : (a b : List (Hand Numbered)) → map pairOf (a ++ b) ≡ map pairOf
 map-append [] b = refl
 map-append (x ∷ a) b = ap (λ (l : List Pair). pairOf x ∷ l) (map-append a b)
 
-module _ (q : Query) (scheme : Scheme) (m : ℕ) (workers : 0 < m) (best : ℕ → ℕ) where
-  sizes-joinable : (s n : ℕ) (ts : List ℕ) (h : List (Hand Numbered)) → Entries m ts → Sizes m (queue q scheme m) s n ts h → (x : Hand Numbered) → List·Memᴰ x h → JoinablePair q best (pairOf x)
+module _ (g : Graph) (scheme : Scheme) (m : ℕ) (workers : 0 < m) where
+  sizes-joinable : (s n : ℕ) (ts : List ℕ) (h : List (Hand Numbered)) → Entries m ts → Sizes m (queue g scheme m) s n ts h → (x : Hand Numbered) → List·Memᴰ x h → JoinablePair g (pairOf x)
   unfolding Sizes
   sizes-joinable s zero ts h t z x i = absurd (List·Memᴰ·not-nil (rw z at i))
   sizes-joinable s (suc n) ts h t z x i =
-      ⊎-elim (λ a. joinable-of q scheme m s workers t (z .3) best x a) (λ a. sizes-joinable (suc s) n (z .2) (z .1) (entries-left (z .3) t) (z .4) x a)
+      ⊎-elim (λ a. joinable-of g scheme m s workers t (z .3) x a) (λ a. sizes-joinable (suc s) n (z .2) (z .1) (entries-left (z .3) t) (z .4) x a)
       (List·Memᴰ·append-cases (z .0) (rw (z .5) at i))
 
-  sizes-total : (s n : ℕ) (ts : List ℕ) (h : List (Hand Numbered)) → Entries m ts → Sizes m (queue q scheme m) s n ts h → (S : ℕ) → s ≤ size S → size S < s + n
-      → (p : Pair) → JoinablePair q best p → union p ≡ S → List·Memᴰ p (map pairOf h) ⊎ List·Memᴰ (record { driving = p .inner; inner = p .driving }) (map pairOf h)
+  sizes-total : (s n : ℕ) (ts : List ℕ) (h : List (Hand Numbered)) → Entries m ts → Sizes m (queue g scheme m) s n ts h → (S : ℕ) → s ≤ size S → size S < s + n
+      → (p : Pair) → JoinablePair g p → union p ≡ S → List·Memᴰ p (map pairOf h) ⊎ List·Memᴰ (record { driving = p .inner; inner = p .driving }) (map pairOf h)
   unfolding Sizes
   sizes-total s zero ts h t z S l u p j w = absurd (omega arith)
   sizes-total s (suc n) ts h t z S l u p j w =
@@ -223,13 +223,13 @@ module _ (q : Query) (scheme : Scheme) (m : ℕ) (workers : 0 < m) (best : ℕ �
       p′ = record { driving = p .inner; inner = p .driving }
 
       go : Dec (size S ≡ s) → (suc s ≤ size S → List·Memᴰ p b ⊎ List·Memᴰ p′ b) → List·Memᴰ p (a ++ b) ⊎ List·Memᴰ p′ (a ++ b)
-      go (yes e) later = ⊎-elim (λ i. inl (Memᴰ·append-left b i)) (λ i. inr (Memᴰ·append-left b i)) (size-complete q scheme m s workers t (z .3) best S e .total p j w)
+      go (yes e) later = ⊎-elim (λ i. inl (Memᴰ·append-left b i)) (λ i. inr (Memᴰ·append-left b i)) (size-complete g scheme m s workers t (z .3) S e .total p j w)
       go (no f) later = ⊎-elim (λ i. inl (Memᴰ·append-right a i)) (λ i. inr (Memᴰ·append-right a i)) (later (omega arith))
 
-  module _ (ts : List ℕ) (h : List (Hand Numbered)) (t : Entries m ts) (z : Sizes m (queue q scheme m) 2 (tableCount q - 1) ts h) where
-    pub plan-joinable : (p : Pair) → List·Memᴰ p (map pairOf h) → JoinablePair q best p
-    plan-joinable p i = let o = Memᴰ·of-map pairOf h i in rw (o .2) at (sizes-joinable 2 (tableCount q - 1) ts h t z (o .0) (o .1))
+  module _ (ts : List ℕ) (h : List (Hand Numbered)) (t : Entries m ts) (z : Sizes m (queue g scheme m) 2 (tableCount g - 1) ts h) where
+    pub plan-joinable : (p : Pair) → List·Memᴰ p (map pairOf h) → JoinablePair g p
+    plan-joinable p i = let o = Memᴰ·of-map pairOf h i in rw (o .2) at (sizes-joinable 2 (tableCount g - 1) ts h t z (o .0) (o .1))
 
     -- FROM THE TURNS IN A ROW: all pairs of each set of 2 to N tables, whatever the workers, the scheme and the turns
-    pub plan-complete : (S : ℕ) → 2 ≤ size S → size S ≤ tableCount q → Complete q best (map pairOf h) S
-    plan-complete S l u = record { sound = λ p i w. plan-joinable p i; total = λ p j w. sizes-total 2 (tableCount q - 1) ts h t z S l (omega arith) p j w }
+    pub plan-complete : (S : ℕ) → 2 ≤ size S → size S ≤ tableCount g → Complete g (map pairOf h) S
+    plan-complete S l u = record { sound = λ p i w. plan-joinable p i; total = λ p j w. sizes-total 2 (tableCount g - 1) ts h t z S l (omega arith) p j w }

@@ -9,7 +9,7 @@ use lib.Dec.{eqb}
 use lib.ListN.{getD}
 use Rattle.rules.specs.Limits.{maxTables, maxScan, maxFixed, maxCoefficient, maxEstimate, costBound}
 use Rattle.rules.specs.Sets.{holds, size}
-use Rattle.rules.specs.Query.{Query, tableCount, edgeCount, at}
+use Rattle.rules.specs.Query.{Graph, Query, tableCount, edgeCount, at}
 use Rattle.rules.specs.Estimate.{joinsAt, divided, byEdges, byLower, withTable, running, estimate}
 use Rattle.rules.specs.Trees.{Tree, scan, join, tablesOf, Valid, price, costOf}
 use Rattle.rules.specs.laws.Bools.{true-or-false}
@@ -20,41 +20,41 @@ either : (P : ℕ → Type 0) (b : Bool) {x y : ℕ} → P x → P y → P (cond
 either P true p q = p
 either P false p q = q
 
-edges-pos : (q : Query) (u t n r : ℕ) → 1 ≤ r → 1 ≤ byEdges q u t n r
+edges-pos : (g : Graph) (u t n r : ℕ) → 1 ≤ r → 1 ≤ byEdges g u t n r
 unfolding byEdges divided
-edges-pos q u t zero r h = h
-edges-pos q u t (suc n) r h = either (λ x. 1 ≤ x) (joinsAt q u t n) (omega arith) (edges-pos q u t n r h)
+edges-pos g u t zero r h = h
+edges-pos g u t (suc n) r h = either (λ x. 1 ≤ x) (joinsAt g u t n) (omega arith) (edges-pos g u t n r h)
 
-lower-pos : (q : Query) (S t k r : ℕ) → 1 ≤ r → 1 ≤ byLower q S t k r
+lower-pos : (g : Graph) (S t k r : ℕ) → 1 ≤ r → 1 ≤ byLower g S t k r
 unfolding byLower
-lower-pos q S t zero r h = h
-lower-pos q S t (suc k) r h = either (λ x. 1 ≤ x) (eqb (holds S (suc k)) 1) (edges-pos q (suc k) t (edgeCount q) (byLower q S t k r) (lower-pos q S t k r h)) (lower-pos q S t k r h)
+lower-pos g S t zero r h = h
+lower-pos g S t (suc k) r h = either (λ x. 1 ≤ x) (eqb (holds S (suc k)) 1) (edges-pos g (suc k) t (edgeCount g) (byLower g S t k r) (lower-pos g S t k r h)) (lower-pos g S t k r h)
 
-table-pos : (q : Query) (S t r : ℕ) → 1 ≤ r → 1 ≤ withTable q S t r
+table-pos : (g : Graph) (S t r : ℕ) → 1 ≤ r → 1 ≤ withTable g S t r
 unfolding withTable
-table-pos q S t r h =
-    let z : 1 ≤ max 1 (at (q .rows) t) = omega arith in
-    omega (arith, lower-pos q S t (t - 1) (r * max 1 (at (q .rows) t)) (mul-le-mul h z))
+table-pos g S t r h =
+    let z : 1 ≤ max 1 (at (g .rows) t) = omega arith in
+    omega (arith, lower-pos g S t (t - 1) (r * max 1 (at (g .rows) t)) (mul-le-mul h z))
 
-running-pos : (q : Query) (S k : ℕ) → 1 ≤ running q S k
+running-pos : (g : Graph) (S k : ℕ) → 1 ≤ running g S k
 unfolding running
-running-pos q S zero = le-refl 1
-running-pos q S (suc k) = either (λ x. 1 ≤ x) (eqb (holds S (suc k)) 1) (table-pos q S (suc k) (running q S k) (running-pos q S k)) (running-pos q S k)
+running-pos g S zero = le-refl 1
+running-pos g S (suc k) = either (λ x. 1 ≤ x) (eqb (holds S (suc k)) 1) (table-pos g S (suc k) (running g S k) (running-pos g S k)) (running-pos g S k)
 
-running-le : (q : Query) (S k : ℕ) → running q S k ≤ maxEstimate
+running-le : (g : Graph) (S k : ℕ) → running g S k ≤ maxEstimate
 unfolding running withTable
-running-le q S zero = omega arith
-running-le q S (suc k) = either (λ x. x ≤ maxEstimate) (eqb (holds S (suc k)) 1) (omega arith) (running-le q S k)
+running-le g S zero = omega arith
+running-le g S (suc k) = either (λ x. x ≤ maxEstimate) (eqb (holds S (suc k)) 1) (omega arith) (running-le g S k)
 
 -- an estimate is at least 1
-pub estimate-pos : (q : Query) (S : ℕ) → 1 ≤ estimate q S
+pub estimate-pos : (g : Graph) (S : ℕ) → 1 ≤ estimate g S
 unfolding estimate
-estimate-pos q S = running-pos q S (tableCount q)
+estimate-pos g S = running-pos g S (tableCount g)
 
 -- and at most the cap
-pub estimate-le : (q : Query) (S : ℕ) → estimate q S ≤ maxEstimate
+pub estimate-le : (g : Graph) (S : ℕ) → estimate g S ≤ maxEstimate
 unfolding estimate
-estimate-le q S = running-le q S (tableCount q)
+estimate-le g S = running-le g S (tableCount g)
 
 -- scan costs, fixed costs and coefficients are within 01's limits; past the end a list reads 0
 pub record Limited (q : Query) : Type 0 where
@@ -73,7 +73,7 @@ module _ (q : Query) (lim : Limited q) where
   unfolding price
   price-le X Y m =
       omega
-      (arith, lim .fixed (m - 1), mul-le-mul (lim .outer (m - 1)) (estimate-le q X), mul-le-mul (lim .inner (m - 1)) (estimate-le q Y), mul-le-mul (lim .result (m - 1)) (estimate-le q (X + Y)))
+      (arith, lim .fixed (m - 1), mul-le-mul (lim .outer (m - 1)) (estimate-le (q .graph) X), mul-le-mul (lim .inner (m - 1)) (estimate-le (q .graph) Y), mul-le-mul (lim .result (m - 1)) (estimate-le (q .graph) (X + Y)))
 
   -- a tree of n tables has n scans and n - 1 joins
   pub cost-le : (t : Tree) → Valid q t → costOf q t + maxPrice ≤ size (tablesOf t) * (maxScan + maxPrice)

@@ -6,12 +6,23 @@ use Prim.Native.Nat.{ℕ, zero, suc, _+_, _≤_, _<_}
 use native.Mathlib.Nat.{add-comm, le-antisymm}
 use native.Mathlib.Omega.{arith}
 use Rattle.rules.specs.laws.Choice.{Choice, NoLater, Best, Either, best-same, best-keep, best-take, best-unique, no-later-total}
-use Rattle.rules.specs.Query.{Query, IsMethod}
+use Rattle.rules.specs.Query.{Graph, Query, IsMethod}
 use Rattle.rules.specs.Connected.{Connected}
 use Rattle.rules.specs.Trees.{Joinable, Least, price}
 use Rattle.rules.specs.Log.{Pair, union, Prices, Stands}
 use Rattle.rules.specs.laws.Connected.{joinable-sym}
 use Rattle.rules.specs.laws.Bellman.{Offer, least-unique}
+
+-- what makes a pair joinable
+pub record JoinablePair (g : Graph) (p : Pair) : Type 0 where
+  pub driving-conn : Connected g (p .driving)
+  pub inner-conn : Connected g (p .inner)
+  pub joinable : Joinable g (p .driving) (p .inner)
+
+-- all pairs of S are handed, each one way round
+pub record Complete (g : Graph) (h : List Pair) (S : ℕ) : Type 0 where
+  pub sound : (p : Pair) → List·Memᴰ p h → union p ≡ S → JoinablePair g p
+  pub total : (p : Pair) → JoinablePair g p → union p ≡ S → List·Memᴰ p h ⊎ List·Memᴰ (record { driving = p .inner; inner = p .driving }) h
 
 module _ (q : Query) (best : ℕ → ℕ) where
   -- k is the join of outer X and inner Y by some method
@@ -68,19 +79,8 @@ module _ (q : Query) (best : ℕ → ℕ) where
             pick (inl m) = record { pair = o .pair; handed = m; whole = o .whole; prices = o .prices }
             pick (inr m) = absurd (ne (ap (λ (r : Pair). union r) (sym (List·Memᴰ·eq-of-singleton m)) ∙ o .whole))
 
-  -- what makes a pair joinable
-  pub record JoinablePair (p : Pair) : Type 0 where
-    pub driving-conn : Connected q (p .driving)
-    pub inner-conn : Connected q (p .inner)
-    pub joinable : Joinable q (p .driving) (p .inner)
-
-  -- all pairs of S are handed, each one way round
-  pub record Complete (h : List Pair) (S : ℕ) : Type 0 where
-    pub sound : (p : Pair) → List·Memᴰ p h → union p ≡ S → JoinablePair p
-    pub total : (p : Pair) → JoinablePair p → union p ≡ S → List·Memᴰ p h ⊎ List·Memᴰ (record { driving = p .inner; inner = p .driving }) h
-
   -- a pair of S, priced with outer X and inner Y, is an offer
-  offer-of : {S X Y : ℕ} {k : Choice} → Connected q X → Connected q Y → Joinable q X Y → X + Y ≡ S → Priced X Y k → Offer q best S k
+  offer-of : {S X Y : ℕ} {k : Choice} → Connected (q .graph) X → Connected (q .graph) Y → Joinable (q .graph) X Y → X + Y ≡ S → Priced X Y k → Offer q best S k
   offer-of {S} {X} {Y} {k} cx cy j w p = record {
     other = Y;
     outer-conn = rw (p .outer) cx;
@@ -91,7 +91,7 @@ module _ (q : Query) (best : ℕ → ℕ) where
     costs = rw (p .outer) (p .costs);
   }
 
-  module _ (h : List Pair) (S : ℕ) (all : Complete h S) where
+  module _ (h : List Pair) (S : ℕ) (all : Complete (q .graph) h S) where
     to-offer : (k : Choice) → Handed h S k → Offer q best S k
     unfolding Offers
     to-offer k o = pick (o .prices)
@@ -102,7 +102,7 @@ module _ (q : Query) (best : ℕ → ℕ) where
         I : ℕ
         I = o .pair .inner
 
-        j : JoinablePair (o .pair)
+        j : JoinablePair (q .graph) (o .pair)
         j = all .sound (o .pair) (o .handed) (o .whole)
 
         pick : Offers (o .pair) k → Offer q best S k
@@ -122,7 +122,7 @@ module _ (q : Query) (best : ℕ → ℕ) where
     row-final = best-same to-offer from-offer
 
   -- two complete runs leave the same row
-  pub rows-agree : {S : ℕ} {h h′ : List Pair} {k k′ : Choice} → Complete h S → Complete h′ S → Best (Handed h S) k → Best (Handed h′ S) k′ → k ≡ k′
+  pub rows-agree : {S : ℕ} {h h′ : List Pair} {k k′ : Choice} → Complete (q .graph) h S → Complete (q .graph) h′ S → Best (Handed h S) k → Best (Handed h′ S) k′ → k ≡ k′
   rows-agree {S} {h} {h′} a a′ r r′ = best-unique (row-final h S a r) (row-final h′ S a′ r′)
 
   -- ---- the row's cost is the log's standing cost, where `best` holds the least costs of the pairs' parts

@@ -20,7 +20,7 @@ single-inj : (u t : ℕ) → 0 < u → 0 < t → single u ≡ single t → u ≡
 single-inj u t p r e = holds-single-only u t p (rw e (holds-single t r))
 
 -- a set of one table has one tree
-pub one-least : (q : Query) (t : ℕ) → IsTable q t → Least q (single t) (at (q .scans) t)
+pub one-least : (q : Query) (t : ℕ) → IsTable (q .graph) t → Least q (single t) (at (q .scans) t)
 unfolding Valid tablesOf costOf
 one-least q t tab = record { tree = scan t; valid = tab; covers = refl; costs = refl; least = least }
   where
@@ -32,27 +32,27 @@ one-least q t tab = record { tree = scan t; valid = tab; covers = refl; costs = 
 module _ (q : Query) (best : ℕ → ℕ) (row : ℕ → Choice) (h : List Pair) where
   -- what the turns leave: the rows of one table, and of more
   pub record Memo : Type 0 where
-    pub one : (t : ℕ) → IsTable q t → best (single t) ≡ at (q .scans) t
-    pub complete : (S : ℕ) → Connected q S → 2 ≤ size S → Complete q best h S
-    pub best-row : (S : ℕ) → Connected q S → 2 ≤ size S → Best (Handed q best h S) (row S)
-    pub cost-row : (S : ℕ) → Connected q S → 2 ≤ size S → row S .cost ≡ best S
+    pub one : (t : ℕ) → IsTable (q .graph) t → best (single t) ≡ at (q .scans) t
+    pub complete : (S : ℕ) → Connected (q .graph) S → 2 ≤ size S → Complete (q .graph) h S
+    pub best-row : (S : ℕ) → Connected (q .graph) S → 2 ≤ size S → Best (Handed q best h S) (row S)
+    pub cost-row : (S : ℕ) → Connected (q .graph) S → 2 ≤ size S → row S .cost ≡ best S
 
   module _ (me : IsMethod q 1) (memo : Memo) where
-    best-offer : (S : ℕ) → Connected q S → 2 ≤ size S → Best (Offer q best S) (row S)
+    best-offer : (S : ℕ) → Connected (q .graph) S → 2 ≤ size S → Best (Offer q best S) (row S)
     best-offer S c two = row-final q best h S (memo .complete S c two) (memo .best-row S c two)
 
-    below : (n S : ℕ) → size S ≤ n → Connected q S → Least q S (best S)
-    below zero S l c = let o = one-table q me S (omega arith) c in rw (← o .2) (rw (memo .one (o .0) (o .1)) (one-least q (o .0) (o .1)))
+    below : (n S : ℕ) → size S ≤ n → Connected (q .graph) S → Least q S (best S)
+    below zero S l c = let o = one-table (q .graph) S (omega arith) c in rw (← o .2) (rw (memo .one (o .0) (o .1)) (one-least q (o .0) (o .1)))
     below (suc n) S l c = go (decLt 1 (size S)) (below n)
       where
-        go : Dec (1 < size S) → ((Y : ℕ) → size Y ≤ n → Connected q Y → Least q Y (best Y)) → Least q S (best S)
+        go : Dec (1 < size S) → ((Y : ℕ) → size Y ≤ n → Connected (q .graph) Y → Least q Y (best Y)) → Least q S (best S)
         go (yes two) ih = rw (memo .cost-row S c two) at (bellman-least q best S two (λ Y cy l₁. ih Y (omega arith) cy) (best-offer S c two))
-        go (no g) ih = let o = one-table q me S (omega arith) c in rw (← o .2) (rw (memo .one (o .0) (o .1)) (one-least q (o .0) (o .1)))
+        go (no g) ih = let o = one-table (q .graph) S (omega arith) c in rw (← o .2) (rw (memo .one (o .0) (o .1)) (one-least q (o .0) (o .1)))
 
     -- DEMAND 2: each connected set's cost is the least over all its trees
-    pub memo-least : (S : ℕ) → Connected q S → Least q S (best S)
+    pub memo-least : (S : ℕ) → Connected (q .graph) S → Least q S (best S)
     memo-least S c = below (size S) S (le-refl (size S)) c
 
     -- and its outer set and method are the tie rule's
-    pub memo-pick : (S : ℕ) → Connected q S → 2 ≤ size S → Pick q S (row S .outer) (row S .method)
+    pub memo-pick : (S : ℕ) → Connected (q .graph) S → 2 ≤ size S → Pick q S (row S .outer) (row S .method)
     memo-pick S c two = bellman-pick q best S two (λ Y cy l₁. memo-least Y cy) (best-offer S c two)

@@ -44,7 +44,7 @@ use Rattle.rules.specs.laws.Refusals.{accepted}
 -- ---- what computes
 -- the row of S
 unfoldable pub rowAt : Query → ℕ → Choice
-rowAt q S = rowOf q (suc (tableCount q)) S
+rowAt q S = rowOf q (suc (tableCount (q .graph))) S
 
 -- the least cost of S
 unfoldable pub bestAt : Query → ℕ → ℕ
@@ -53,7 +53,7 @@ bestAt q S = rowAt q S .cost
 
 -- what the turns hand
 unfoldable pub handsOf : Query → Scheme → ℕ → List ℕ → List (Hand Numbered)
-handsOf q scheme m turns = sizes-exist m (queue q scheme m) 2 (tableCount q - 1) turns .0
+handsOf q scheme m turns = sizes-exist m (queue (q .graph) scheme m) 2 (tableCount (q .graph) - 1) turns .0
 
 -- the set of the pair of turn j
 abbrev pub resultAt : List (Hand Numbered) → ℕ → ℕ
@@ -73,19 +73,19 @@ planOf i scheme =
       answer = record {
         refusal = 0;
         place = 0;
-        best = bestAt q (full (tableCount q));
-        rows = length (memo q);
-        cells = length (skips q);
+        best = bestAt q (full (tableCount (q .graph)));
+        rows = length (memo (q .graph));
+        cells = length (skips (q .graph));
         pairs = length h;
         counts = perWorker (λ w. length (only w h));
       };
       left = record {
-        sets = over (memo q) (lent .sets);
-        estimates = over (map (estimate q) (memo q)) (lent .estimates);
-        costs = over (map (bestAt q) (memo q)) (lent .costs);
-        outers = over (map (λ (S : ℕ). rowAt q S .outer) (memo q)) (lent .outers);
-        methods = over (map (λ (S : ℕ). rowAt q S .method) (memo q)) (lent .methods);
-        skips = over (skips q) (lent .skips);
+        sets = over (memo (q .graph)) (lent .sets);
+        estimates = over (map (estimate (q .graph)) (memo (q .graph))) (lent .estimates);
+        costs = over (map (bestAt q) (memo (q .graph))) (lent .costs);
+        outers = over (map (λ (S : ℕ). rowAt q S .outer) (memo (q .graph))) (lent .outers);
+        methods = over (map (λ (S : ℕ). rowAt q S .method) (memo (q .graph))) (lent .methods);
+        skips = over (skips (q .graph)) (lent .skips);
         logWorkers = over (map (λ (x : Hand Numbered). x .worker) log) (lent .logWorkers);
         logDriving = over (map (λ (x : Hand Numbered). pairOf x .driving) log) (lent .logDriving);
         logInner = over (map (λ (x : Hand Numbered). pairOf x .inner) log) (lent .logInner);
@@ -159,16 +159,16 @@ module _ (i : Input) (good : Accepted i) where
   unfolding q
   method-one = record { from-one = omega arith; to-count = good .checked .sound .some-method }
 
-  best-least : (S : ℕ) → Connected q S → Least q S (bestAt q S)
+  best-least : (S : ℕ) → Connected (q .graph) S → Least q S (bestAt q S)
   unfolding bestAt rowAt q
-  best-least S c = row-least q method-one (suc (tableCount q)) S (omega (arith, size-count q S c)) c
+  best-least S c = row-least q method-one (suc (tableCount (q .graph))) S (omega (arith, size-count (q .graph) S c)) c
 
-  row-right : (S : ℕ) → Connected q S → Row q S (bestAt q S) (rowAt q S .outer) (rowAt q S .method)
+  row-right : (S : ℕ) → Connected (q .graph) S → Row q S (bestAt q S) (rowAt q S .outer) (rowAt q S .method)
   unfolding rowAt q
   row-right S c = record {
     least = best-least S c;
     one = λ l. unfold rowOf in (unfold scanRow in (rw (le-leb (size S) 1 l) (refl, refl)));
-    more = λ two. row-pick q method-one (tableCount q) S (omega (arith, size-count q S c)) c two;
+    more = λ two. row-pick q method-one (tableCount (q .graph)) S (omega (arith, size-count (q .graph) S c)) c two;
   }
 
   filled : (scheme : Scheme) → Filled q (i .lent) (planOf i scheme .left)
@@ -177,30 +177,30 @@ module _ (i : Input) (good : Accepted i) where
     sets = refl;
     estimates = refl;
     rows = λ j l. rw (at-row (bestAt q) (i .lent .costs) j l, at-row (λ (S : ℕ). rowAt q S .outer) (i .lent .outers) j l, at-row (λ (S : ℕ). rowAt q S .method) (i .lent .methods) j l)
-        (row-right (getD (memo q) j 0) (memo-only q (getD (memo q) j 0) (at-in 0 (memo q) j l)));
+        (row-right (getD (memo (q .graph)) j 0) (memo-only (q .graph) (getD (memo (q .graph)) j 0) (at-in 0 (memo (q .graph)) j l)));
     costs = column (bestAt q) (i .lent .costs) (good .checked .columns .costs);
     outers = column (λ (S : ℕ). rowAt q S .outer) (i .lent .outers) (good .checked .columns .outers);
     methods = column (λ (S : ℕ). rowAt q S .method) (i .lent .methods) (good .checked .columns .methods);
     skips = refl;
   }
     where
-      at-row : (f : ℕ → ℕ) (l : List ℕ) (j : ℕ) → j < length (memo q) → getD (over (map f (memo q)) l) j 0 ≡ f (getD (memo q) j 0)
-      at-row f l j h = over-at (map f (memo q)) l j (omega (arith, length-map f (memo q))) ∙ at-map f 0 (memo q) j h
+      at-row : (f : ℕ → ℕ) (l : List ℕ) (j : ℕ) → j < length (memo (q .graph)) → getD (over (map f (memo (q .graph))) l) j 0 ≡ f (getD (memo (q .graph)) j 0)
+      at-row f l j h = over-at (map f (memo (q .graph))) l j (omega (arith, length-map f (memo (q .graph)))) ∙ at-map f 0 (memo (q .graph)) j h
 
-      column : (f : ℕ → ℕ) (l : List ℕ) → length l ≡ length (i .lent .sets) → Spared (length (memo q)) l (over (map f (memo q)) l)
-      column f l e = written (length (memo q)) (map f (memo q)) l (length-map f (memo q)) (omega (arith, good .rows))
+      column : (f : ℕ → ℕ) (l : List ℕ) → length l ≡ length (i .lent .sets) → Spared (length (memo (q .graph))) l (over (map f (memo (q .graph))) l)
+      column f l e = written (length (memo (q .graph))) (map f (memo (q .graph))) l (length-map f (memo (q .graph))) (omega (arith, good .rows))
 
   -- the turns
   module _ (scheme : Scheme) where
     handed : List (Hand Numbered)
     handed = handsOf q scheme (i .workers) (i .turns)
 
-    handed-sizes : Sizes (i .workers) (queue q scheme (i .workers)) 2 (tableCount q - 1) (i .turns) handed
+    handed-sizes : Sizes (i .workers) (queue (q .graph) scheme (i .workers)) 2 (tableCount (q .graph) - 1) (i .turns) handed
     unfolding handsOf handed
-    handed-sizes = sizes-exist (i .workers) (queue q scheme (i .workers)) 2 (tableCount q - 1) (i .turns) .1
+    handed-sizes = sizes-exist (i .workers) (queue (q .graph) scheme (i .workers)) 2 (tableCount (q .graph) - 1) (i .turns) .1
 
-    handed-joinable : (p : Pair) → List·Memᴰ p (map pairOf handed) → JoinablePair q (bestAt q) p
-    handed-joinable p m = plan-joinable q scheme (i .workers) (good .checked .crew .some-worker) (bestAt q) (i .turns) handed (entries-of (i .workers) (i .turns) (good .checked .turns)) handed-sizes p m
+    handed-joinable : (p : Pair) → List·Memᴰ p (map pairOf handed) → JoinablePair (q .graph) p
+    handed-joinable p m = plan-joinable (q .graph) scheme (i .workers) (good .checked .crew .some-worker) (i .turns) handed (entries-of (i .workers) (i .turns) (good .checked .turns)) handed-sizes p m
 
     stands : (j : ℕ) → j < length handed → Stands q (upTo handed j) (resultAt handed j) (standing q handed j)
     unfolding standing
@@ -226,7 +226,7 @@ module _ (i : Input) (good : Accepted i) where
 
     counted : Counted q handed (planOf i scheme .answer)
     unfolding planOf q handed
-    counted = record { refusal = refl; place = refl; best = best-least (full (tableCount q)) (good .checked .sound .connected); rows = refl; cells = refl; pairs = refl; counts = refl }
+    counted = record { refusal = refl; place = refl; best = best-least (full (tableCount (q .graph))) (good .checked .sound .connected); rows = refl; cells = refl; pairs = refl; counts = refl }
 
     plan-given : schemeOf (i .scheme) ≡ Good scheme → Given i (planOf i scheme)
     unfolding q

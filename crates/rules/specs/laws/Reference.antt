@@ -101,7 +101,7 @@ module _ (q : Query) (best : ℕ → ℕ) where
   byMethod X Y (suc m) = record { cost = best X + best Y + price q X Y (suc m); outer = X; method = suc m } ∷ byMethod X Y m
 
   unfoldable pub splitsAt : ℕ → ℕ → Bool
-  splitsAt S X = isYes (connected? q X) && (isYes (connected? q (S - X)) && (eqb (bitAnd X (S - X)) 0 && isYes (between? q X (S - X))))
+  splitsAt S X = isYes (connected? (q .graph) X) && (isYes (connected? (q .graph) (S - X)) && (eqb (bitAnd X (S - X)) 0 && isYes (between? (q .graph) X (S - X))))
 
   unfoldable pub offersBelow : ℕ → ℕ → List Choice
   offersBelow S zero = []
@@ -139,7 +139,7 @@ module _ (q : Query) (best : ℕ → ℕ) where
       e = omega (arith, o .whole)
 
       test : splitsAt S X ≡ true
-      test = rw (e, true-yes (connected? q X) (o .outer-conn), true-yes (connected? q (o .other)) (o .inner-conn), eq-eqb (bitAnd X (o .other)) 0 (o .joinable .apart), true-yes (between? q X (o .other)) (o .joinable .between))
+      test = rw (e, true-yes (connected? (q .graph) X) (o .outer-conn), true-yes (connected? (q .graph) (o .other)) (o .inner-conn), eq-eqb (bitAnd X (o .other)) 0 (o .joinable .apart), true-yes (between? (q .graph) X (o .other)) (o .joinable .between))
 
       go : Dec (k .outer ≡ n) → (k .outer < n → List·Memᴰ k (offersBelow S n)) → List·Memᴰ k (offersBelow S (suc n))
       go (yes p) ih =
@@ -154,16 +154,16 @@ module _ (q : Query) (best : ℕ → ℕ) where
   offers-of S (suc n) k l m = go (offers-of S n k (omega arith)) (List·Memᴰ·append-cases (cond (splitsAt S n) (byMethod n (S - n) (methodCount q)) []) m)
     where
       t₁ : Bool
-      t₁ = isYes (connected? q n)
+      t₁ = isYes (connected? (q .graph) n)
 
       t₂ : Bool
-      t₂ = isYes (connected? q (S - n))
+      t₂ = isYes (connected? (q .graph) (S - n))
 
       t₃ : Bool
       t₃ = eqb (bitAnd n (S - n)) 0
 
       t₄ : Bool
-      t₄ = isYes (between? q n (S - n))
+      t₄ = isYes (between? (q .graph) n (S - n))
 
       made : splitsAt S n ≡ true → List·Memᴰ k (byMethod n (S - n) (methodCount q)) → Offer q best S k
       made t h =
@@ -173,9 +173,9 @@ module _ (q : Query) (best : ℕ → ℕ) where
           let t″ = and-true-r t₂ (t₃ && t₄) t′ in
           record {
             other = S - n;
-            outer-conn = rw e (yes-true (connected? q n) (and-true-l t₁ (t₂ && (t₃ && t₄)) t));
-            inner-conn = yes-true (connected? q (S - n)) (and-true-l t₂ (t₃ && t₄) t′);
-            joinable = rw e (record { apart = eqb-true (bitAnd n (S - n)) 0 (and-true-l t₃ t₄ t″); between = yes-true (between? q n (S - n)) (and-true-r t₃ t₄ t″) });
+            outer-conn = rw e (yes-true (connected? (q .graph) n) (and-true-l t₁ (t₂ && (t₃ && t₄)) t));
+            inner-conn = yes-true (connected? (q .graph) (S - n)) (and-true-l t₂ (t₃ && t₄) t′);
+            joinable = rw e (record { apart = eqb-true (bitAnd n (S - n)) 0 (and-true-l t₃ t₄ t″); between = yes-true (between? (q .graph) n (S - n)) (and-true-r t₃ t₄ t″) });
             whole = omega arith;
             method = record { from-one = r .1; to-count = r .2 };
             costs = rw e (r .3);
@@ -203,38 +203,38 @@ pickOf (k ∷ ks) = bestOf k ks
 
 module _ (q : Query) where
   unfoldable pub scanRow : ℕ → Choice
-  scanRow S = record { cost = at (q .scans) (find (has S) (tableCount q)); outer = 0; method = 0 }
+  scanRow S = record { cost = at (q .scans) (find (has S) (tableCount (q .graph))); outer = 0; method = 0 }
 
   unfoldable pub rowOf : ℕ → ℕ → Choice
   rowOf zero S = scanRow S
   rowOf (suc n) S = cond (leb (size S) 1) (scanRow S) (pickOf (offersBelow q (λ X. rowOf n X .cost) S S))
 
   module _ (me : IsMethod q 1) where
-    scan-least : (S : ℕ) → size S ≤ 1 → Connected q S → Least q S (scanRow S .cost)
+    scan-least : (S : ℕ) → size S ≤ 1 → Connected (q .graph) S → Least q S (scanRow S .cost)
     unfolding scanRow
     scan-least S l c =
-        let o = one-table q me S l c in
-        let e : find (has S) (tableCount q) ≡ o .0 = found (decLt 0 (find (has S) (tableCount q))) in
+        let o = one-table (q .graph) S l c in
+        let e : find (has S) (tableCount (q .graph)) ≡ o .0 = found (decLt 0 (find (has S) (tableCount (q .graph)))) in
         rw e (subst (λ (x : ℕ). Least q x (at (q .scans) (o .0))) (o .2) (one-least q (o .0) (o .1)))
       where
-        found : Dec (0 < find (has S) (tableCount q)) → find (has S) (tableCount q) ≡ (one-table q me S l c) .0
+        found : Dec (0 < find (has S) (tableCount (q .graph))) → find (has S) (tableCount (q .graph)) ≡ (one-table (q .graph) S l c) .0
         found (yes h) =
-            let o = one-table q me S l c in
-            sym (holds-single-only (o .0) (find (has S) (tableCount q)) (o .1 .from-one) (rw (o .2) (eqb-true (holds S (find (has S) (tableCount q))) 1 ((find-some (has S) (tableCount q) h) .0))))
+            let o = one-table (q .graph) S l c in
+            sym (holds-single-only (o .0) (find (has S) (tableCount (q .graph))) (o .1 .from-one) (rw (o .2) (eqb-true (holds S (find (has S) (tableCount (q .graph)))) 1 ((find-some (has S) (tableCount (q .graph)) h) .0))))
         found (no g) =
-            let o = one-table q me S l c in
+            let o = one-table (q .graph) S l c in
             let h : holds S (o .0) ≡ 1 = subst (λ (x : ℕ). holds x (o .0) ≡ 1) (o .2) (holds-single (o .0) (o .1 .from-one)) in
-            absurd (find-none (has S) (tableCount q) (omega arith) (o .0) (o .1 .from-one) (o .1 .to-count) (eq-eqb (holds S (o .0)) 1 h))
+            absurd (find-none (has S) (tableCount (q .graph)) (omega arith) (o .0) (o .1 .from-one) (o .1 .to-count) (eq-eqb (holds S (o .0)) 1 h))
 
     -- a connected set of two tables or more has an offer
-    some-offer : (best : ℕ → ℕ) (S : ℕ) → Connected q S → 2 ≤ size S → (k : Choice) × Offer q best S k
+    some-offer : (best : ℕ → ℕ) (S : ℕ) → Connected (q .graph) S → 2 ≤ size S → (k : Choice) × Offer q best S k
     some-offer best S c two =
-        let a = connected-split q S c two in (
+        let a = connected-split (q .graph) S c two in (
           record { cost = best (a .part) + best (single (a .last)) + price q (a .part) (single (a .last)) 1; outer = a .part; method = 1 },
           record {
             other = single (a .last);
             outer-conn = a .connected;
-            inner-conn = connected-single q (a .last) (a .table);
+            inner-conn = connected-single (q .graph) (a .last) (a .table);
             joinable = record { apart = a .splits .apart; between = a .between };
             whole = a .splits .whole;
             method = me;
@@ -242,7 +242,7 @@ module _ (q : Query) where
           },
         )
 
-    pick-offer : (best : ℕ → ℕ) (S : ℕ) → Connected q S → 2 ≤ size S → Best (Offer q best S) (pickOf (offersBelow q best S S))
+    pick-offer : (best : ℕ → ℕ) (S : ℕ) → Connected (q .graph) S → 2 ≤ size S → Best (Offer q best S) (pickOf (offersBelow q best S S))
     unfolding pickOf
     pick-offer best S c two = go (offersBelow q best S S) refl
       where
@@ -250,18 +250,18 @@ module _ (q : Query) where
         go [] e = let o = some-offer best S c two in absurd (List·Memᴰ·not-nil (rw e at (offers-in q best S S (o .0) (o .1) (omega (arith, o .1 .whole, o .1 .inner-conn .some)))))
         go (k ∷ ks) e = best-offer q best S k ks e
 
-    pub row-least : (n S : ℕ) → size S ≤ n → Connected q S → Least q S (rowOf n S .cost)
+    pub row-least : (n S : ℕ) → size S ≤ n → Connected (q .graph) S → Least q S (rowOf n S .cost)
     unfolding rowOf
     row-least zero S l c = scan-least S (omega arith) c
     row-least (suc n) S l c = go (true-or-false (leb (size S) 1)) (row-least n)
       where
-        go : (leb (size S) 1 ≡ true) ⊎ (leb (size S) 1 ≡ false) → ((Y : ℕ) → size Y ≤ n → Connected q Y → Least q Y (rowOf n Y .cost)) → Least q S (rowOf (suc n) S .cost)
+        go : (leb (size S) 1 ≡ true) ⊎ (leb (size S) 1 ≡ false) → ((Y : ℕ) → size Y ≤ n → Connected (q .graph) Y → Least q Y (rowOf n Y .cost)) → Least q S (rowOf (suc n) S .cost)
         go (inl e) ih = rw e (scan-least S (leb-true (size S) 1 e) c)
         go (inr e) ih =
             let two : 2 ≤ size S = leb-false (size S) 1 e in
             rw e (bellman-least q (λ X. rowOf n X .cost) S two (λ Y cy l₁. ih Y (omega arith) cy) (pick-offer (λ X. rowOf n X .cost) S c two))
 
-    pub row-pick : (n S : ℕ) → size S ≤ suc n → Connected q S → 2 ≤ size S → Pick q S (rowOf (suc n) S .outer) (rowOf (suc n) S .method)
+    pub row-pick : (n S : ℕ) → size S ≤ suc n → Connected (q .graph) S → 2 ≤ size S → Pick q S (rowOf (suc n) S .outer) (rowOf (suc n) S .method)
     unfolding rowOf
     row-pick n S l c two = rw (lt-leb (size S) 1 two)
         (bellman-pick q (λ X. rowOf n X .cost) S two (λ Y cy l₁. row-least n Y (omega arith) cy) (pick-offer (λ X. rowOf n X .cost) S c two))

@@ -22,7 +22,7 @@ use Rattle.rules.specs.Limits.{maxTables, maxMethods, maxWorkers, maxDiv
 use Rattle.rules.specs.Kinds.{newEdge, edgeNumber, schemeOf, crewWith, newCrew}
 use Rattle.rules.specs.Lists.{isYes}
 use Rattle.rules.specs.Sets.{full}
-use Rattle.rules.specs.Query.{Query, tableCount, edgeCount, methodCount, Joins}
+use Rattle.rules.specs.Query.{Graph, Query, tableCount, edgeCount, methodCount, Joins}
 use Rattle.rules.specs.Connected.{Connected}
 use Rattle.rules.specs.Estimate.{joinsAt}
 use Rattle.rules.specs.Rows.{memo}
@@ -148,7 +148,7 @@ of-lengths q lent s c = (
 table-true : (q : Query) (i : ℕ) → badTable q i ≡ 0 → TableGood q i
 unfolding badTable
 table-true q i e =
-    let r = getD (q .rows) i 0 in
+    let r = getD (q .graph .rows) i 0 in
     let s = getD (q .scans) i 0 in
     let t = test-none (tableFits r s) 2 e in
     record { rows = leb-true r maxRows (and-true-l (leb r maxRows) (leb s maxScan) t); scan = leb-true s maxScan (and-true-r (leb r maxRows) (leb s maxScan) t) }
@@ -156,7 +156,7 @@ table-true q i e =
 true-table : (q : Query) (i : ℕ) → TableGood q i → badTable q i ≡ 0
 unfolding badTable
 true-table q i g =
-    let r = getD (q .rows) i 0 in
+    let r = getD (q .graph .rows) i 0 in
     let s = getD (q .scans) i 0 in
     none-test (tableFits r s) 3 (and-true (leb r maxRows) (leb s maxScan) (le-leb r maxRows (g .rows)) (le-leb s maxScan (g .scan)))
 
@@ -188,47 +188,47 @@ true-method q i g =
 
 -- ---- edges
 -- the test of an edge's two tables, and what it says
-pub joins-true : (q : Query) (a b i : ℕ) → joinsAt q a b i ≡ true → Joins q i a b
+pub joins-true : (g : Graph) (a b i : ℕ) → joinsAt g a b i ≡ true → Joins g i a b
 unfolding joinsAt
-joins-true q a b i e = ⊎-elim
+joins-true g a b i e = ⊎-elim
     (λ h. inl (eqb-true l a (and-true-l (eqb l a) (eqb r b) h), eqb-true r b (and-true-r (eqb l a) (eqb r b) h)))
     (λ h. inr (eqb-true l b (and-true-l (eqb l b) (eqb r a) h), eqb-true r a (and-true-r (eqb l b) (eqb r a) h)))
     (or-cases (eqb l a && eqb r b) (eqb l b && eqb r a) e)
   where
     l : ℕ
-    l = getD (q .left) i 0
+    l = getD (g .left) i 0
 
     r : ℕ
-    r = getD (q .right) i 0
+    r = getD (g .right) i 0
 
-pub true-joins : (q : Query) (a b i : ℕ) → Joins q i a b → joinsAt q a b i ≡ true
+pub true-joins : (g : Graph) (a b i : ℕ) → Joins g i a b → joinsAt g a b i ≡ true
 unfolding joinsAt
-true-joins q a b i (inl h) =
-    or-true-l (eqb (getD (q .left) i 0) a && eqb (getD (q .right) i 0) b) (eqb (getD (q .left) i 0) b && eqb (getD (q .right) i 0) a)
-    (and-true (eqb (getD (q .left) i 0) a) (eqb (getD (q .right) i 0) b) (eq-eqb (getD (q .left) i 0) a (h .0)) (eq-eqb (getD (q .right) i 0) b (h .1)))
-true-joins q a b i (inr h) =
-    or-true-r (eqb (getD (q .left) i 0) a && eqb (getD (q .right) i 0) b) (eqb (getD (q .left) i 0) b && eqb (getD (q .right) i 0) a)
-    (and-true (eqb (getD (q .left) i 0) b) (eqb (getD (q .right) i 0) a) (eq-eqb (getD (q .left) i 0) b (h .0)) (eq-eqb (getD (q .right) i 0) a (h .1)))
+true-joins g a b i (inl h) =
+    or-true-l (eqb (getD (g .left) i 0) a && eqb (getD (g .right) i 0) b) (eqb (getD (g .left) i 0) b && eqb (getD (g .right) i 0) a)
+    (and-true (eqb (getD (g .left) i 0) a) (eqb (getD (g .right) i 0) b) (eq-eqb (getD (g .left) i 0) a (h .0)) (eq-eqb (getD (g .right) i 0) b (h .1)))
+true-joins g a b i (inr h) =
+    or-true-r (eqb (getD (g .left) i 0) a && eqb (getD (g .right) i 0) b) (eqb (getD (g .left) i 0) b && eqb (getD (g .right) i 0) a)
+    (and-true (eqb (getD (g .left) i 0) b) (eqb (getD (g .right) i 0) a) (eq-eqb (getD (g .left) i 0) b (h .0)) (eq-eqb (getD (g .right) i 0) a (h .1)))
 
-below-false : (q : Query) (a b n : ℕ) → joinedBelow q a b n ≡ false → (j : ℕ) → j < n → Joins q j a b → ⊥
+below-false : (g : Graph) (a b n : ℕ) → joinedBelow g a b n ≡ false → (j : ℕ) → j < n → Joins g j a b → ⊥
 unfolding joinedBelow
-below-false q a b zero e j l h = omega arith
-below-false q a b (suc n) e j l h = go (true-or-false (joinedBelow q a b n)) (true-or-false (joinsAt q a b n)) (below-false q a b n)
+below-false g a b zero e j l h = omega arith
+below-false g a b (suc n) e j l h = go (true-or-false (joinedBelow g a b n)) (true-or-false (joinsAt g a b n)) (below-false g a b n)
   where
-    go : (joinedBelow q a b n ≡ true) ⊎ (joinedBelow q a b n ≡ false) → (joinsAt q a b n ≡ true) ⊎ (joinsAt q a b n ≡ false)
-        → (joinedBelow q a b n ≡ false → (k : ℕ) → k < n → Joins q k a b → ⊥) → ⊥
-    go (inl x) y ih = not-both (joinedBelow q a b n || joinsAt q a b n) (or-true-l (joinedBelow q a b n) (joinsAt q a b n) x) e
-    go (inr x) (inl y) ih = not-both (joinedBelow q a b n || joinsAt q a b n) (or-true-r (joinedBelow q a b n) (joinsAt q a b n) y) e
+    go : (joinedBelow g a b n ≡ true) ⊎ (joinedBelow g a b n ≡ false) → (joinsAt g a b n ≡ true) ⊎ (joinsAt g a b n ≡ false)
+        → (joinedBelow g a b n ≡ false → (k : ℕ) → k < n → Joins g k a b → ⊥) → ⊥
+    go (inl x) y ih = not-both (joinedBelow g a b n || joinsAt g a b n) (or-true-l (joinedBelow g a b n) (joinsAt g a b n) x) e
+    go (inr x) (inl y) ih = not-both (joinedBelow g a b n || joinsAt g a b n) (or-true-r (joinedBelow g a b n) (joinsAt g a b n) y) e
     go (inr x) (inr y) ih = last (ℕ-discrete j n)
       where
         last : Dec (j ≡ n) → ⊥
-        last (yes p) = not-both (joinsAt q a b n) (true-joins q a b n (rw p at h)) y
-        last (no g) = ih x j (omega arith) h
+        last (yes p) = not-both (joinsAt g a b n) (true-joins g a b n (rw p at h)) y
+        last (no z) = ih x j (omega arith) h
 
-false-below : (q : Query) (a b n : ℕ) → ((j : ℕ) → j < n → Joins q j a b → ⊥) → joinedBelow q a b n ≡ false
+false-below : (g : Graph) (a b n : ℕ) → ((j : ℕ) → j < n → Joins g j a b → ⊥) → joinedBelow g a b n ≡ false
 unfolding joinedBelow
-false-below q a b zero h = refl
-false-below q a b (suc n) h = ⊎-elim (λ e. absurd (h n (omega arith) (joins-true q a b n e))) (λ e. rw (false-below q a b n (λ j l. h j (omega arith)), e)) (true-or-false (joinsAt q a b n))
+false-below g a b zero h = refl
+false-below g a b (suc n) h = ⊎-elim (λ e. absurd (h n (omega arith) (joins-true g a b n e))) (λ e. rw (false-below g a b n (λ j l. h j (omega arith)), e)) (true-or-false (joinsAt g a b n))
 
 edge-tests : (e : Edge) (a b c : Bool) → edgeNumber (cond (not a) Outside (cond b Itself (cond (not c) Divisor (GoodEdge e)))) ≡ 0 → (a ≡ true) × (b ≡ false) × (c ≡ true)
 edge-tests e false b c h = absurd (omega arith)
@@ -242,9 +242,9 @@ or-zero zero true e = absurd (omega arith)
 or-zero zero false e = (refl, refl)
 or-zero (suc n) b e = absurd (omega arith)
 
-edge-true : (q : Query) (i : ℕ) → badEdge q i ≡ 0 → EdgeGood q i
+edge-true : (g : Graph) (i : ℕ) → badEdge g i ≡ 0 → EdgeGood g i
 unfolding badEdge repeats
-edge-true q i e = record {
+edge-true g i e = record {
   left-some = range 1 N l (and-true-l (inRange 1 N l) (inRange 1 N r) (t .0)) .0;
   left-known = range 1 N l (and-true-l (inRange 1 N l) (inRange 1 N r) (t .0)) .1;
   right-some = range 1 N r (and-true-r (inRange 1 N l) (inRange 1 N r) (t .0)) .0;
@@ -252,40 +252,40 @@ edge-true q i e = record {
   different = eqb-false l r (t .1);
   divisor-some = range 1 maxDivisor d (t .2) .0;
   divisor-fits = range 1 maxDivisor d (t .2) .1;
-  new = below-false q l r i (o .1);
+  new = below-false g l r i (o .1);
 }
   where
     N : ℕ
-    N = tableCount q
+    N = tableCount g
 
     l : ℕ
-    l = getD (q .left) i 0
+    l = getD (g .left) i 0
 
     r : ℕ
-    r = getD (q .right) i 0
+    r = getD (g .right) i 0
 
     d : ℕ
-    d = getD (q .divisors) i 0
+    d = getD (g .divisors) i 0
 
-    o : (edgeNumber (newEdge N l r d) ≡ 0) × (joinedBelow q l r i ≡ false)
-    o = or-zero (edgeNumber (newEdge N l r d)) (joinedBelow q l r i) e
+    o : (edgeNumber (newEdge N l r d) ≡ 0) × (joinedBelow g l r i ≡ false)
+    o = or-zero (edgeNumber (newEdge N l r d)) (joinedBelow g l r i) e
 
     t : ((inRange 1 N l && inRange 1 N r) ≡ true) × (eqb l r ≡ false) × (inRange 1 maxDivisor d ≡ true)
     t = edge-tests (record { left = l; right = r; divisor = d }) (inRange 1 N l && inRange 1 N r) (eqb l r) (inRange 1 maxDivisor d) (o .0)
 
-true-edge : (q : Query) (i : ℕ) → EdgeGood q i → badEdge q i ≡ 0
+true-edge : (g : Graph) (i : ℕ) → EdgeGood g i → badEdge g i ≡ 0
 unfolding badEdge repeats edgeOr
-true-edge q i g =
-    let N = tableCount q in
-    let l = getD (q .left) i 0 in
-    let r = getD (q .right) i 0 in
-    let d = getD (q .divisors) i 0 in
+true-edge g i good =
+    let N = tableCount g in
+    let l = getD (g .left) i 0 in
+    let r = getD (g .right) i 0 in
+    let d = getD (g .divisors) i 0 in
     rw (
-      of-range 1 N l (g .left-some) (g .left-known),
-      of-range 1 N r (g .right-some) (g .right-known),
-      ne-eqb l r (g .different),
-      of-range 1 maxDivisor d (g .divisor-some) (g .divisor-fits),
-      false-below q l r i (g .new),
+      of-range 1 N l (good .left-some) (good .left-known),
+      of-range 1 N r (good .right-some) (good .right-known),
+      ne-eqb l r (good .different),
+      of-range 1 maxDivisor d (good .divisor-some) (good .divisor-fits),
+      false-below g l r i (good .new),
     )
 
 -- ---- workers, scheme and turns
@@ -326,26 +326,26 @@ accepted i e = record {
       lengths = lengths .0;
       some-table = some-tables .0;
       few-tables = some-tables .1;
-      tables = λ j l. table-true q j (none-bad (badTable q) 0 (tableCount q) (a .1 .1 .0) j (omega arith) (omega arith));
+      tables = λ j l. table-true q j (none-bad (badTable q) 0 (tableCount (q .graph)) (a .1 .1 .0) j (omega arith) (omega arith));
       some-method = some-methods .0;
       few-methods = some-methods .1;
       methods = λ j l. method-true q j (none-bad (badMethod q) 0 (methodCount q) (a .1 .1 .1 .1 .0) j (omega arith) (omega arith));
-      edges = λ j l. edge-true q j (none-bad (badEdge q) 0 (edgeCount q) (a .1 .1 .1 .1 .1 .0) j (omega arith) (omega arith));
+      edges = λ j l. edge-true (q .graph) j (none-bad (badEdge (q .graph)) 0 (edgeCount (q .graph)) (a .1 .1 .1 .1 .1 .0) j (omega arith) (omega arith));
       connected = yes-true all? (not-false (isYes all?) (none-refuse 9 (not (isYes all?)) (a .1 .1 .1 .1 .1 .1 .0)));
     };
     columns = lengths .1;
     crew = crew-true (i .workers) (i .scheme) (none-refuse 10 (isRefused (newCrew (i .workers) (i .scheme))) (a .1 .1 .1 .1 .1 .1 .1 .0));
     turns = λ j l. turn-true (i .workers) (i .turns) j (none-bad (badTurn (i .workers) (i .turns)) 0 (length (i .turns)) (a .1 .1 .1 .1 .1 .1 .1 .1 .0) j (omega arith) (omega arith));
   };
-  rows = ltb-false (length (i .lent .sets)) (length (memo q)) (none-refuse 12 (ltb (length (i .lent .sets)) (length (memo q))) (a .1 .1 .1 .1 .1 .1 .1 .1 .1 .0));
-  cells = ltb-false (length (i .lent .skips)) (length (skips q)) (none-refuse 13 (ltb (length (i .lent .skips)) (length (skips q))) (a .1 .1 .1 .1 .1 .1 .1 .1 .1 .1 .0));
+  rows = ltb-false (length (i .lent .sets)) (length (memo (q .graph))) (none-refuse 12 (ltb (length (i .lent .sets)) (length (memo (q .graph)))) (a .1 .1 .1 .1 .1 .1 .1 .1 .1 .0));
+  cells = ltb-false (length (i .lent .skips)) (length (skips (q .graph))) (none-refuse 13 (ltb (length (i .lent .skips)) (length (skips (q .graph)))) (a .1 .1 .1 .1 .1 .1 .1 .1 .1 .1 .0));
 }
   where
     q : Query
     q = i .query
 
-    all? : Dec (Connected q (full (tableCount q)))
-    all? = connected? q (full (tableCount q))
+    all? : Dec (Connected (q .graph) (full (tableCount (q .graph))))
+    all? = connected? (q .graph) (full (tableCount (q .graph)))
 
     a : AllNone (checks i ++ rooms i)
     a = none-all (checks i ++ rooms i) e
@@ -353,8 +353,8 @@ accepted i e = record {
     lengths : SameLengths q × Columns (i .lent)
     lengths = lengths-of q (i .lent) (same-true (groups q (memoLengths (i .lent)) (logLengths (i .lent))) (not-false (allSame (groups q (memoLengths (i .lent)) (logLengths (i .lent)))) (none-refuse 0 (not (allSame (groups q (memoLengths (i .lent)) (logLengths (i .lent))))) (a .0))))
 
-    some-tables : (1 ≤ tableCount q) × (tableCount q ≤ maxTables)
-    some-tables = range 1 maxTables (tableCount q) (not-false (tablesFit (tableCount q)) (none-refuse 1 (not (tablesFit (tableCount q))) (a .1 .0)))
+    some-tables : (1 ≤ tableCount (q .graph)) × (tableCount (q .graph) ≤ maxTables)
+    some-tables = range 1 maxTables (tableCount (q .graph)) (not-false (tablesFit (tableCount (q .graph))) (none-refuse 1 (not (tablesFit (tableCount (q .graph)))) (a .1 .0)))
 
     some-methods : (1 ≤ methodCount q) × (methodCount q ≤ maxMethods)
     some-methods = range 1 maxMethods (methodCount q) (not-false (methodsFit (methodCount q)) (none-refuse 3 (not (methodsFit (methodCount q))) (a .1 .1 .1 .0)))
@@ -365,25 +365,25 @@ unfolding verdict checks checksOf rooms AllNone
 accepted-none i c = all-none (checks i ++ rooms i) (
   refuse-none 1 (not (allSame (groups q (memoLengths (i .lent)) (logLengths (i .lent))))) (rw (true-same (groups q (memoLengths (i .lent)) (logLengths (i .lent))) (of-lengths q (i .lent) (s .lengths) (c .checked .columns)))),
   (
-    refuse-none 2 (not (tablesFit (tableCount q))) (rw (of-range 1 maxTables (tableCount q) (s .some-table) (s .few-tables))),
+    refuse-none 2 (not (tablesFit (tableCount (q .graph)))) (rw (of-range 1 maxTables (tableCount (q .graph)) (s .some-table) (s .few-tables))),
     (
-      bad-none (badTable q) 0 (tableCount q) (λ j l u. true-table q j (s .tables j (omega arith))),
+      bad-none (badTable q) 0 (tableCount (q .graph)) (λ j l u. true-table q j (s .tables j (omega arith))),
       (
         refuse-none 4 (not (methodsFit (methodCount q))) (rw (of-range 1 maxMethods (methodCount q) (s .some-method) (s .few-methods))),
         (
           bad-none (badMethod q) 0 (methodCount q) (λ j l u. true-method q j (s .methods j (omega arith))),
           (
-            bad-none (badEdge q) 0 (edgeCount q) (λ j l u. true-edge q j (s .edges j (omega arith))),
+            bad-none (badEdge (q .graph)) 0 (edgeCount (q .graph)) (λ j l u. true-edge (q .graph) j (s .edges j (omega arith))),
             (
-              refuse-none 10 (not (isYes (connected? q (full (tableCount q))))) (rw (true-yes (connected? q (full (tableCount q))) (s .connected))),
+              refuse-none 10 (not (isYes (connected? (q .graph) (full (tableCount (q .graph)))))) (rw (true-yes (connected? (q .graph) (full (tableCount (q .graph)))) (s .connected))),
               (
                 refuse-none 11 (isRefused (newCrew (i .workers) (i .scheme))) (true-crew (i .workers) (i .scheme) (c .checked .crew)),
                 (
                   bad-none (badTurn (i .workers) (i .turns)) 0 (length (i .turns)) (λ j l u. true-turn (i .workers) (i .turns) j (c .checked .turns j (omega arith))),
                   (
-                    refuse-none 13 (ltb (length (i .lent .sets)) (length (memo q))) (le-ltb (length (i .lent .sets)) (length (memo q)) (c .rows)),
+                    refuse-none 13 (ltb (length (i .lent .sets)) (length (memo (q .graph)))) (le-ltb (length (i .lent .sets)) (length (memo (q .graph))) (c .rows)),
                     (
-                      refuse-none 14 (ltb (length (i .lent .skips)) (length (skips q))) (le-ltb (length (i .lent .skips)) (length (skips q)) (c .cells)),
+                      refuse-none 14 (ltb (length (i .lent .skips)) (length (skips (q .graph)))) (le-ltb (length (i .lent .skips)) (length (skips (q .graph))) (c .cells)),
                       tt,
                     ),
                   ),

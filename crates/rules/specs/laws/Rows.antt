@@ -11,7 +11,7 @@ use lib.ListN.{length}
 use borrow.Author.Tests.{ltb-true, eqb-true, lt-ltb, eq-eqb}
 use Rattle.rules.specs.Lists.{keep, isYes, inRow}
 use Rattle.rules.specs.Sets.{size, number, tables, Ascending}
-use Rattle.rules.specs.Query.{Query, tableCount}
+use Rattle.rules.specs.Query.{Graph, tableCount}
 use Rattle.rules.specs.Connected.{Connected}
 use Rattle.rules.specs.Rows.{Before, before, Ordered, combos, sequences, rowsOf, memo}
 use Rattle.rules.specs.laws.Bools.{true-or-false, not-both, and-true, and-true-l, and-true-r, or-cases, or-true-l, or-true-r, yes-true, true-yes}
@@ -59,8 +59,8 @@ combos-only (suc k) t (suc n) s m = part (combos-only k (suc t) n) (combos-only 
 
 ordered-append : (xs ys : List (List ℕ)) → Ordered xs → Ordered ys → ((a b : List ℕ) → List·Memᴰ a xs → List·Memᴰ b ys → Before a b) → Ordered (xs ++ ys)
 unfolding Ordered
-ordered-append [] ys p q c = q
-ordered-append (a ∷ xs) ys p q c = (λ s m. ⊎-elim (p .0 s) (c a s (List·Memᴰ·head refl)) (List·Memᴰ·append-cases xs m), ordered-append xs ys (p .1) q (λ x y m n. c x y (List·Memᴰ·tail m) n))
+ordered-append [] ys p g c = g
+ordered-append (a ∷ xs) ys p g c = (λ s m. ⊎-elim (p .0 s) (c a s (List·Memᴰ·head refl)) (List·Memᴰ·append-cases xs m), ordered-append xs ys (p .1) g (λ x y m n. c x y (List·Memᴰ·tail m) n))
 
 ordered-map : (t : ℕ) (ss : List (List ℕ)) → Ordered ss → Ordered (map (λ (l : List ℕ). t ∷ l) ss)
 unfolding Ordered Before
@@ -81,53 +81,53 @@ combos-ordered (suc k) t (suc n) =
     late x (y ∷ b) h = inl (h .1 .0)
 
     cross : (a b : List ℕ) → List·Memᴰ a (map (λ (l : List ℕ). t ∷ l) (combos k (suc t) n)) → List·Memᴰ b (combos (suc k) (suc t) n) → Before a b
-    cross a b p q = let o = Memᴰ·of-map (λ (l : List ℕ). t ∷ l) (combos k (suc t) n) p in rw (← o .2) (late (o .0) b (combos-only (suc k) (suc t) n b q))
+    cross a b p g = let o = Memᴰ·of-map (λ (l : List ℕ). t ∷ l) (combos k (suc t) n) p in rw (← o .2) (late (o .0) b (combos-only (suc k) (suc t) n b g))
 
 -- ---- the connected ones among them
-pub below-all : (q : Query) (X : ℕ) → Connected q X → X < 2 ^ tableCount q
-below-all q X c = lt-of-holds (tableCount q) X (λ t h. c .known t h .to-count)
+pub below-all : (g : Graph) (X : ℕ) → Connected g X → X < 2 ^ tableCount g
+below-all g X c = lt-of-holds (tableCount g) X (λ t h. c .known t h .to-count)
 
-pub rows-all : (q : Query) (X : ℕ) → Connected q X → List·Memᴰ X (rowsOf q (size X))
+pub rows-all : (g : Graph) (X : ℕ) → Connected g X → List·Memᴰ X (rowsOf g (size X))
 unfolding rowsOf sequences tables
-rows-all q X c = Memᴰ·cast (sym back) (Memᴰ·map number (keep-in (λ (s : List ℕ). isYes (connected? q (number s))) s (combos (size X) 1 N) there (rw back (true-yes (connected? q X) c))))
+rows-all g X c = Memᴰ·cast (sym back) (Memᴰ·map number (keep-in (λ (s : List ℕ). isYes (connected? g (number s))) s (combos (size X) 1 N) there (rw back (true-yes (connected? g X) c))))
   where
     N : ℕ
-    N = tableCount q
+    N = tableCount g
 
     s : List ℕ
     s = tables N X
 
     back : number s ≡ X
-    back = tables-back N X (below-all q X c)
+    back = tables-back N X (below-all g X c)
 
     there : List·Memᴰ s (combos (size X) 1 N)
-    there = combos-all (size X) 1 N s (tables-size 1 N X (below-all q X c)) (tables-ascending 1 N X)
+    there = combos-all (size X) 1 N s (tables-size 1 N X (below-all g X c)) (tables-ascending 1 N X)
 
-pub rows-only : (q : Query) (k X : ℕ) → List·Memᴰ X (rowsOf q k) → Connected q X × (size X ≡ k)
+pub rows-only : (g : Graph) (k X : ℕ) → List·Memᴰ X (rowsOf g k) → Connected g X × (size X ≡ k)
 unfolding rowsOf sequences tables
-rows-only q k X m = (rw (o .2) at c, ap size (sym (o .2)) ∙ sym (tables-size 1 N (number s) (below-all q (number s) c)) ∙ ap length (number-back N s (r .1)) ∙ r .0)
+rows-only g k X m = (rw (o .2) at c, ap size (sym (o .2)) ∙ sym (tables-size 1 N (number s) (below-all g (number s) c)) ∙ ap length (number-back N s (r .1)) ∙ r .0)
   where
     N : ℕ
-    N = tableCount q
+    N = tableCount g
 
-    o : (s : List ℕ) × List·Memᴰ s (keep (λ (s : List ℕ). isYes (connected? q (number s))) (combos k 1 N)) × (number s ≡ X)
-    o = Memᴰ·of-map number (keep (λ (s : List ℕ). isYes (connected? q (number s))) (combos k 1 N)) m
+    o : (s : List ℕ) × List·Memᴰ s (keep (λ (s : List ℕ). isYes (connected? g (number s))) (combos k 1 N)) × (number s ≡ X)
+    o = Memᴰ·of-map number (keep (λ (s : List ℕ). isYes (connected? g (number s))) (combos k 1 N)) m
 
     s : List ℕ
     s = o .0
 
-    i : List·Memᴰ s (combos k 1 N) × (isYes (connected? q (number s)) ≡ true)
-    i = keep-of (λ (s : List ℕ). isYes (connected? q (number s))) s (combos k 1 N) (o .1)
+    i : List·Memᴰ s (combos k 1 N) × (isYes (connected? g (number s)) ≡ true)
+    i = keep-of (λ (s : List ℕ). isYes (connected? g (number s))) s (combos k 1 N) (o .1)
 
-    c : Connected q (number s)
-    c = yes-true (connected? q (number s)) (i .1)
+    c : Connected g (number s)
+    c = yes-true (connected? g (number s)) (i .1)
 
     r : (length s ≡ k) × Ascending 1 (1 + N) s
     r = combos-only k 1 N s (i .0)
 
 -- a connected set has at most N tables
-pub size-count : (q : Query) (X : ℕ) → Connected q X → size X ≤ tableCount q
-size-count q X c = size-le (tableCount q) X (below-all q X c)
+pub size-count : (g : Graph) (X : ℕ) → Connected g X → size X ≤ tableCount g
+size-count g X c = size-le (tableCount g) X (below-all g X c)
 
 -- ---- in order, each once
 keep-ordered : (f : List ℕ → Bool) (ss : List (List ℕ)) → Ordered ss → Ordered (keep f ss)
@@ -139,28 +139,28 @@ keep-ordered f (s ∷ ss) o = go (keep-ordered f ss (o .1)) (true-or-false (f s)
     go ih (inl e) = rw e (λ s′ m. o .0 s′ (keep-of f s′ ss m .0), ih)
     go ih (inr e) = rw e ih
 
-pub sequences-ordered : (q : Query) (k : ℕ) → Ordered (sequences q k)
+pub sequences-ordered : (g : Graph) (k : ℕ) → Ordered (sequences g k)
 unfolding sequences
-sequences-ordered q k = keep-ordered (λ (s : List ℕ). isYes (connected? q (number s))) (combos k 1 (tableCount q)) (combos-ordered k 1 (tableCount q))
+sequences-ordered g k = keep-ordered (λ (s : List ℕ). isYes (connected? g (number s))) (combos k 1 (tableCount g)) (combos-ordered k 1 (tableCount g))
 
 same-back : (n : ℕ) (ss : List (List ℕ)) → ((s : List ℕ) → List·Memᴰ s ss → tables n (number s) ≡ s) → map (tables n) (map number ss) ≡ ss
 same-back n [] h = refl
 same-back n (s ∷ ss) h = ap₂ (λ (x : List ℕ) (xs : List (List ℕ)). x ∷ xs) (h s (List·Memᴰ·head refl)) (same-back n ss (λ s′ m. h s′ (List·Memᴰ·tail m)))
 
 -- the ascending sequence of a row's set is the sequence that it was made of
-pub rows-tables : (q : Query) (k : ℕ) → map (tables (tableCount q)) (rowsOf q k) ≡ sequences q k
+pub rows-tables : (g : Graph) (k : ℕ) → map (tables (tableCount g)) (rowsOf g k) ≡ sequences g k
 unfolding rowsOf sequences
-rows-tables q k = same-back N (keep f (combos k 1 N)) (λ s m. number-back N s (combos-only k 1 N s (keep-of f s (combos k 1 N) m .0) .1))
+rows-tables g k = same-back N (keep f (combos k 1 N)) (λ s m. number-back N s (combos-only k 1 N s (keep-of f s (combos k 1 N) m .0) .1))
   where
     N : ℕ
-    N = tableCount q
+    N = tableCount g
 
     f : List ℕ → Bool
-    f s = isYes (connected? q (number s))
+    f s = isYes (connected? g (number s))
 
 -- STRICTLY ASCENDING: each row of a size stands before all later ones, by the sequences of table numbers
-pub rows-ordered : (q : Query) (k : ℕ) → Ordered (map (tables (tableCount q)) (rowsOf q k))
-rows-ordered q k = rw (rows-tables q k) (sequences-ordered q k)
+pub rows-ordered : (g : Graph) (k : ℕ) → Ordered (map (tables (tableCount g)) (rowsOf g k))
+rows-ordered g k = rw (rows-tables g k) (sequences-ordered g k)
 
 -- nothing stands before itself
 pub before-irrefl : (s : List ℕ) → Before s s → ⊥
@@ -174,24 +174,24 @@ unfolding Ordered Once
 ordered-once n [] o = tt
 ordered-once n (x ∷ xs) o = (λ m. before-irrefl (tables n x) (o .0 (tables n x) (Memᴰ·map (tables n) m)), ordered-once n xs (o .1))
 
-pub rows-once : (q : Query) (k : ℕ) → Once (rowsOf q k)
-rows-once q k = ordered-once (tableCount q) (rowsOf q k) (rows-ordered q k)
+pub rows-once : (g : Graph) (k : ℕ) → Once (rowsOf g k)
+rows-once g k = ordered-once (tableCount g) (rowsOf g k) (rows-ordered g k)
 
 -- ---- all sizes
 -- EVERY CONNECTED SET has a memo row
-pub memo-all : (q : Query) (S : ℕ) → Connected q S → List·Memᴰ S (memo q)
+pub memo-all : (g : Graph) (S : ℕ) → Connected g S → List·Memᴰ S (memo g)
 unfolding memo
-memo-all q S c = in-row (rowsOf q) S 1 (tableCount q) (size S) (size-pos S (c .some)) (omega (arith, size-count q S c)) (rows-all q S c)
+memo-all g S c = in-row (rowsOf g) S 1 (tableCount g) (size S) (size-pos S (c .some)) (omega (arith, size-count g S c)) (rows-all g S c)
 
 -- NOTHING ELSE has one
-pub memo-only : (q : Query) (S : ℕ) → List·Memᴰ S (memo q) → Connected q S
+pub memo-only : (g : Graph) (S : ℕ) → List·Memᴰ S (memo g) → Connected g S
 unfolding memo
-memo-only q S m = let r = of-row (rowsOf q) S 1 (tableCount q) m in rows-only q (r .0) S (r .3) .0
+memo-only g S m = let r = of-row (rowsOf g) S 1 (tableCount g) m in rows-only g (r .0) S (r .3) .0
 
 -- and each has ONE
-pub memo-once : (q : Query) → Once (memo q)
+pub memo-once : (g : Graph) → Once (memo g)
 unfolding memo
-memo-once q = once-row (rowsOf q) (rows-once q) (λ j k S a b. sym (rows-only q j S a .1) ∙ rows-only q k S b .1) 1 (tableCount q)
+memo-once g = once-row (rowsOf g) (rows-once g) (λ j k S a b. sym (rows-only g j S a .1) ∙ rows-only g k S b .1) 1 (tableCount g)
 
 -- ---- the order as a test
 pub before-yes : (xs ys : List ℕ) → before xs ys ≡ true → Before xs ys

@@ -12,7 +12,7 @@ use lib.Seq.{drop-cons, drop-length}
 use borrow.Author.Tests.{eqb-true, eqb-false}
 use Rattle.rules.specs.Lists.{inRow}
 use Rattle.rules.specs.Sets.{holds, Disjoint, size, tables}
-use Rattle.rules.specs.Query.{Query, tableCount}
+use Rattle.rules.specs.Query.{Graph, tableCount}
 use Rattle.rules.specs.Rows.{rowsOf, memo}
 use Rattle.rules.specs.Skips.{row, Skip, skipFrom, vectorsFrom, vectors, skips}
 use Rattle.rules.specs.laws.Bools.{true-or-false}
@@ -38,7 +38,7 @@ skip-right rows t (suc n) i e = rw (drop-cons rows i 0 l) (go (skip-right rows t
       where
         last : (j : ℕ) → i < j → j < skipFrom t (suc (suc i)) (drop (suc i) rows) → Dec (j ≡ suc i) → holds (row rows j) t ≡ 1
         last j a b (yes p) = rw p (eqb-true (holds (getD rows i 0) t) 1 h)
-        last j a b (no g) = ih .passed j (omega arith) b
+        last j a b (no z) = ih .passed j (omega arith) b
     go ih (inr h) = rw h (record { after = omega arith; inside = omega arith; passed = λ j a b. absurd (omega arith); lacks = λ a. eqb-false (holds (getD rows i 0) t) 1 h })
 
 pub skip-unique : {rows : List ℕ} {i t k k′ : ℕ} → Skip rows i t k → Skip rows i t k′ → k ≡ k′
@@ -46,8 +46,8 @@ skip-unique {rows} {i} {t} {k} {k′} a b = go (decLt k k′) (decLt k′ k)
   where
     go : Dec (k < k′) → Dec (k′ < k) → k ≡ k′
     go (yes l) d = absurd (a .lacks (omega (arith, b .inside)) (b .passed k (a .after) l))
-    go (no g) (yes l) = absurd (b .lacks (omega (arith, a .inside)) (a .passed k′ (b .after) l))
-    go (no g) (no h) = omega arith
+    go (no z) (yes l) = absurd (b .lacks (omega (arith, a .inside)) (a .passed k′ (b .after) l))
+    go (no z) (no h) = omega arith
 
 -- A JUMP PASSES ONLY OVERLAPPING ROWS: row i shares table t with D, and so do all that its skip value for t passes
 pub skip-overlaps : {rows : List ℕ} {i t k : ℕ} (D : ℕ) → Skip rows i t k → holds D t ≡ 1 → holds (row rows i) t ≡ 1 → (j : ℕ) → i ≤ j → j < k → Disjoint D (row rows j) → ⊥
@@ -58,7 +58,7 @@ skip-overlaps {rows} {i} {t} {k} D s hd hi j l u d = go (decLt i j)
 
     go : Dec (i < j) → ⊥
     go (yes a) = both (s .passed j a u)
-    go (no g) = let e : i ≡ j = omega arith in both (rw e at hi)
+    go (no z) = let e : i ≡ j = omega arith in both (rw e at hi)
 
 -- ---- "the sum of those sets' sizes"
 vectors-length : (n i : ℕ) (rows : List ℕ) → ((S : ℕ) → List·Memᴰ S rows → S < 2 ^ n) → length (vectorsFrom n i rows) ≡ sum (map size rows)
@@ -78,20 +78,20 @@ map-over : (xs ys : List ℕ) → map size (xs ++ ys) ≡ map size xs ++ map siz
 map-over [] ys = refl
 map-over (x ∷ xs) ys = ap (λ (l : List ℕ). size x ∷ l) (map-over xs ys)
 
-cells-from : (q : Query) (k n : ℕ) → length (inRow (vectors q) k n) ≡ sum (map size (inRow (rowsOf q) k n))
+cells-from : (g : Graph) (k n : ℕ) → length (inRow (vectors g) k n) ≡ sum (map size (inRow (rowsOf g) k n))
 unfolding inRow vectors sum
-cells-from q k zero = refl
-cells-from q k (suc n) =
-    length-append (vectorsFrom (tableCount q) 1 (rowsOf q k)) (inRow (vectors q) (suc k) n)
+cells-from g k zero = refl
+cells-from g k (suc n) =
+    length-append (vectorsFrom (tableCount g) 1 (rowsOf g k)) (inRow (vectors g) (suc k) n)
     ∙ omega (
       arith,
-      vectors-length (tableCount q) 1 (rowsOf q k) (λ S m. below-all q S (rows-only q k S m .0)),
-      cells-from q (suc k) n,
-      ap sum (map-over (rowsOf q k) (inRow (rowsOf q) (suc k) n)),
-      sum-append (map size (rowsOf q k)) (map size (inRow (rowsOf q) (suc k) n)),
+      vectors-length (tableCount g) 1 (rowsOf g k) (λ S m. below-all g S (rows-only g k S m .0)),
+      cells-from g (suc k) n,
+      ap sum (map-over (rowsOf g k) (inRow (rowsOf g) (suc k) n)),
+      sum-append (map size (rowsOf g k)) (map size (inRow (rowsOf g) (suc k) n)),
     )
 
 -- the skip cells of a query are as many as its connected sets have tables
-pub cells-sizes : (q : Query) → length (skips q) ≡ sum (map size (memo q))
+pub cells-sizes : (g : Graph) → length (skips g) ≡ sum (map size (memo g))
 unfolding skips memo
-cells-sizes q = cells-from q 1 (tableCount q)
+cells-sizes g = cells-from g 1 (tableCount g)
