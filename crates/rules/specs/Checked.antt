@@ -14,20 +14,6 @@ use Rattle.rules.specs.Rows.{memo}
 use Rattle.rules.specs.Skips.{skips}
 use Rattle.rules.specs.Refusals.{Memory, Input}
 
--- not 1: the lists of a query's records have their lengths
-pub record SameLengths (q : Query) : Type 0 where
-  pub scans : length (q .scans) ≡ tableCount (q .graph)
-  pub right : length (q .graph .right) ≡ edgeCount (q .graph)
-  pub divisors : length (q .graph .divisors) ≡ edgeCount (q .graph)
-  pub outer : length (q .perOuter) ≡ methodCount q
-  pub inner : length (q .perInner) ≡ methodCount q
-  pub result : length (q .perResult) ≡ methodCount q
-
--- not 3: table i, from 0
-pub record TableGood (q : Query) (i : ℕ) : Type 0 where
-  pub rows : getD (q .graph .rows) i 0 ≤ maxRows
-  pub scan : getD (q .scans) i 0 ≤ maxScan
-
 -- not 5: method i, from 0
 pub record MethodGood (q : Query) (i : ℕ) : Type 0 where
   pub fixed : getD (q .fixed) i 0 ≤ maxFixed
@@ -46,16 +32,26 @@ pub record EdgeGood (g : Graph) (i : ℕ) : Type 0 where
   pub divisor-fits : getD (g .divisors) i 0 ≤ maxDivisor
   pub new : (j : ℕ) → j < i → Joins g j (getD (g .left) i 0) (getD (g .right) i 0) → ⊥
 
+-- a graph that passes 1, 2, 3 and 6 to 9
+pub record GoodGraph (g : Graph) : Type 0 where
+  pub right : length (g .right) ≡ edgeCount g
+  pub divisors : length (g .divisors) ≡ edgeCount g
+  pub some-table : 1 ≤ tableCount g
+  pub few-tables : tableCount g ≤ maxTables
+  pub rows : (i : ℕ) → i < tableCount g → getD (g .rows) i 0 ≤ maxRows
+  pub edges : (i : ℕ) → i < edgeCount g → EdgeGood g i
+
 -- a query that passes 1 to 10
 pub record Sound (q : Query) : Type 0 where
-  pub lengths : SameLengths q
-  pub some-table : 1 ≤ tableCount (q .graph)
-  pub few-tables : tableCount (q .graph) ≤ maxTables
-  pub tables : (i : ℕ) → i < tableCount (q .graph) → TableGood q i
+  pub graph : GoodGraph (q .graph)
+  pub scan-list : length (q .scans) ≡ tableCount (q .graph)
+  pub scans : (i : ℕ) → i < tableCount (q .graph) → getD (q .scans) i 0 ≤ maxScan
+  pub outer-list : length (q .perOuter) ≡ methodCount q
+  pub inner-list : length (q .perInner) ≡ methodCount q
+  pub result-list : length (q .perResult) ≡ methodCount q
   pub some-method : 1 ≤ methodCount q
   pub few-methods : methodCount q ≤ maxMethods
   pub methods : (i : ℕ) → i < methodCount q → MethodGood q i
-  pub edges : (i : ℕ) → i < edgeCount (q .graph) → EdgeGood (q .graph) i
   pub connected : Connected (q .graph) (full (tableCount (q .graph)))
 
 -- not 1: the columns of memo and log have their lengths

@@ -85,12 +85,12 @@ groups q memoColumns logColumns =
     ∷ []
 
 -- refusal 3: "rows or scan cost of a table over its limit"
-unfoldable pub badTable : Query → ℕ → ℕ
-badTable q i = cond (tableFits (getD (q .graph .rows) i 0) (getD (q .scans) i 0)) 0 3
+unfoldable pub badTable : List ℕ → List ℕ → ℕ → ℕ
+badTable rows scans i = cond (tableFits (getD rows i 0) (getD scans i 0)) 0 3
 
 -- refusal 5: "fixed cost or coefficient over its limit"
-unfoldable pub badMethod : Query → ℕ → ℕ
-badMethod q i = cond (methodFits (getD (q .fixed) i 0) (getD (q .perOuter) i 0) (getD (q .perInner) i 0) (getD (q .perResult) i 0)) 0 5
+unfoldable pub badMethod : List ℕ → List ℕ → List ℕ → List ℕ → ℕ → ℕ
+badMethod fixed outer inner result i = cond (methodFits (getD fixed i 0) (getD outer i 0) (getD inner i 0) (getD result i 0)) 0 5
 
 -- one of the first n edges joins tables a and b
 unfoldable pub joinedBelow : Graph → ℕ → ℕ → ℕ → Bool
@@ -124,9 +124,9 @@ unfoldable pub checksOf : Query → ℕ → ℕ → List ℕ → List ℕ → Li
 checksOf q workers scheme turns memoColumns logColumns =
     refuse 1 (not (allSame (groups q memoColumns logColumns)))
     ∷ refuse 2 (not (tablesFit (tableCount (q .graph))))
-    ∷ firstBad (badTable q) 0 (tableCount (q .graph))
+    ∷ firstBad (badTable (q .graph .rows) (q .scans)) 0 (tableCount (q .graph))
     ∷ refuse 4 (not (methodsFit (methodCount q)))
-    ∷ firstBad (badMethod q) 0 (methodCount q)
+    ∷ firstBad (badMethod (q .fixed) (q .perOuter) (q .perInner) (q .perResult)) 0 (methodCount q)
     ∷ firstBad (badEdge (q .graph)) 0 (edgeCount (q .graph))
     ∷ refuse 10 (not (isYes (connected? (q .graph) (full (tableCount (q .graph))))))
     ∷ refuse 11 (isRefused (newCrew workers scheme))

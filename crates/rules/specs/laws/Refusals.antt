@@ -3,8 +3,9 @@ use mathlib.Core.Path.{_≡_, refl, sym, ap, _∙_}
 use mathlib.Core.Logic.{_⊎_, inl, inr, ⊎-elim}
 use mathlib.Core.Bool.{Bool, true, false, cond, _&&_, _||_, not}
 use mathlib.Core.List.{List, [], _∷_, _++_}
-use Prim.Native.Nat.{ℕ, zero, suc, _+_, _≤_, _<_}
+use Prim.Native.Nat.{ℕ, zero, suc, _+_, _-_, _≤_, _<_}
 use native.Mathlib.Decide.{ℕ-discrete}
+use native.Mathlib.Numerals.{add-one}
 use native.Mathlib.Omega.{arith}
 use lib.Dec.{eqb, leb, ltb}
 use lib.ListN.{length, getD}
@@ -28,7 +29,7 @@ use Rattle.rules.specs.Estimate.{joinsAt}
 use Rattle.rules.specs.Rows.{memo}
 use Rattle.rules.specs.Skips.{skips}
 use Rattle.rules.specs.Refusals.{Memory, Input, refuse, firstBad, firstOf, none, allAre, allSame, memoLengths, logLengths, groups, badTable, badMethod, joinedBelow, repeats, edgeOr, badEdge, isRefused, badTurn, checksOf, checks, rooms, verdict}
-use Rattle.rules.specs.Checked.{SameLengths, TableGood, MethodGood, EdgeGood, Sound, Columns, CrewGood, Checked, Accepted}
+use Rattle.rules.specs.Checked.{MethodGood, EdgeGood, GoodGraph, Sound, Columns, CrewGood, Checked, Accepted}
 use Rattle.rules.specs.laws.Bools.{true-or-false, not-both, and-true, and-true-l, and-true-r, or-cases, or-true-l, or-true-r, yes-true, true-yes}
 use Rattle.rules.specs.laws.Decide.{connected?}
 
@@ -80,6 +81,20 @@ unfolding firstBad
 bad-none f i zero h = refl
 bad-none f i (suc n) h = rw (eq-eqb (f i) 0 (h i (omega arith) (omega arith))) (bad-none f (suc i) n (λ j l u. h j (omega arith) (omega arith)))
 
+-- ---- as a loop goes: record i is good, record i is bad, no record is left
+module _ (f : ℕ → ℕ) (i n : ℕ) where
+  pub bad-step : i < n → f i ≡ 0 → firstBad f (i + 1) (n - (i + 1)) ≡ firstBad f i (n - i)
+  unfolding firstBad
+  bad-step l e = let k : n - i ≡ suc (n - (i + 1)) = omega arith in rw (k, eq-eqb (f i) 0 e, add-one i)
+
+  pub bad-here : i < n → (f i ≡ 0 → ⊥) → record { number = f i; place = i } ≡ firstBad f i (n - i)
+  unfolding firstBad
+  bad-here l e = let k : n - i ≡ suc (n - (i + 1)) = omega arith in rw (k, ne-eqb (f i) 0 e)
+
+  pub bad-end : n ≤ i → none ≡ firstBad f i (n - i)
+  unfolding firstBad
+  bad-end l = let k : n - i ≡ 0 = omega arith in rw k
+
 -- a test that must hold, as a number
 test-none : (b : Bool) (n : ℕ) → cond b 0 (suc n) ≡ 0 → b ≡ true
 test-none true n e = refl
@@ -126,6 +141,15 @@ true-same [] h = refl
 true-same ([] ∷ gs) h = true-same gs h
 true-same ((n ∷ ks) ∷ gs) h = and-true (allAre n ks) (allSame gs) (true-are n ks (h .0)) (true-same gs (h .1))
 
+-- the lists of a query's records have their lengths
+pub record SameLengths (q : Query) : Type 0 where
+  pub scans : length (q .scans) ≡ tableCount (q .graph)
+  pub right : length (q .graph .right) ≡ edgeCount (q .graph)
+  pub divisors : length (q .graph .divisors) ≡ edgeCount (q .graph)
+  pub outer : length (q .perOuter) ≡ methodCount q
+  pub inner : length (q .perInner) ≡ methodCount q
+  pub result : length (q .perResult) ≡ methodCount q
+
 lengths-of : (q : Query) (lent : Memory) → AllSame (groups q (memoLengths lent) (logLengths lent)) → SameLengths q × Columns lent
 unfolding AllSame AllAre groups
 lengths-of q lent h =
@@ -145,22 +169,22 @@ of-lengths q lent s c = (
 )
 
 -- ---- records
-table-true : (q : Query) (i : ℕ) → badTable q i ≡ 0 → TableGood q i
+table-true : (q : Query) (i : ℕ) → badTable (q .graph .rows) (q .scans) i ≡ 0 → (getD (q .graph .rows) i 0 ≤ maxRows) × (getD (q .scans) i 0 ≤ maxScan)
 unfolding badTable
 table-true q i e =
     let r = getD (q .graph .rows) i 0 in
     let s = getD (q .scans) i 0 in
     let t = test-none (tableFits r s) 2 e in
-    record { rows = leb-true r maxRows (and-true-l (leb r maxRows) (leb s maxScan) t); scan = leb-true s maxScan (and-true-r (leb r maxRows) (leb s maxScan) t) }
+    (leb-true r maxRows (and-true-l (leb r maxRows) (leb s maxScan) t), leb-true s maxScan (and-true-r (leb r maxRows) (leb s maxScan) t))
 
-true-table : (q : Query) (i : ℕ) → TableGood q i → badTable q i ≡ 0
+true-table : (q : Query) (i : ℕ) → getD (q .graph .rows) i 0 ≤ maxRows → getD (q .scans) i 0 ≤ maxScan → badTable (q .graph .rows) (q .scans) i ≡ 0
 unfolding badTable
-true-table q i g =
+true-table q i a b =
     let r = getD (q .graph .rows) i 0 in
     let s = getD (q .scans) i 0 in
-    none-test (tableFits r s) 3 (and-true (leb r maxRows) (leb s maxScan) (le-leb r maxRows (g .rows)) (le-leb s maxScan (g .scan)))
+    none-test (tableFits r s) 3 (and-true (leb r maxRows) (leb s maxScan) (le-leb r maxRows a) (le-leb s maxScan b))
 
-method-true : (q : Query) (i : ℕ) → badMethod q i ≡ 0 → MethodGood q i
+method-true : (q : Query) (i : ℕ) → badMethod (q .fixed) (q .perOuter) (q .perInner) (q .perResult) i ≡ 0 → MethodGood q i
 unfolding badMethod
 method-true q i e =
     let f = getD (q .fixed) i 0 in
@@ -177,7 +201,7 @@ method-true q i e =
       result = leb-true (getD (q .perResult) i 0) maxCoefficient (and-true-r b c t₂);
     }
 
-true-method : (q : Query) (i : ℕ) → MethodGood q i → badMethod q i ≡ 0
+true-method : (q : Query) (i : ℕ) → MethodGood q i → badMethod (q .fixed) (q .perOuter) (q .perInner) (q .perResult) i ≡ 0
 unfolding badMethod
 true-method q i g =
     let f = getD (q .fixed) i 0 in
@@ -323,14 +347,22 @@ unfolding verdict checks checksOf rooms AllNone
 accepted i e = record {
   checked = record {
     sound = record {
-      lengths = lengths .0;
-      some-table = some-tables .0;
-      few-tables = some-tables .1;
-      tables = λ j l. table-true q j (none-bad (badTable q) 0 (tableCount (q .graph)) (a .1 .1 .0) j (omega arith) (omega arith));
+      graph = record {
+        right = lengths .0 .right;
+        divisors = lengths .0 .divisors;
+        some-table = some-tables .0;
+        few-tables = some-tables .1;
+        rows = λ j l. tables j l .0;
+        edges = λ j l. edge-true (q .graph) j (none-bad (badEdge (q .graph)) 0 (edgeCount (q .graph)) (a .1 .1 .1 .1 .1 .0) j (omega arith) (omega arith));
+      };
+      scan-list = lengths .0 .scans;
+      scans = λ j l. tables j l .1;
+      outer-list = lengths .0 .outer;
+      inner-list = lengths .0 .inner;
+      result-list = lengths .0 .result;
       some-method = some-methods .0;
       few-methods = some-methods .1;
-      methods = λ j l. method-true q j (none-bad (badMethod q) 0 (methodCount q) (a .1 .1 .1 .1 .0) j (omega arith) (omega arith));
-      edges = λ j l. edge-true (q .graph) j (none-bad (badEdge (q .graph)) 0 (edgeCount (q .graph)) (a .1 .1 .1 .1 .1 .0) j (omega arith) (omega arith));
+      methods = λ j l. method-true q j (none-bad (badMethod (q .fixed) (q .perOuter) (q .perInner) (q .perResult)) 0 (methodCount q) (a .1 .1 .1 .1 .0) j (omega arith) (omega arith));
       connected = yes-true all? (not-false (isYes all?) (none-refuse 9 (not (isYes all?)) (a .1 .1 .1 .1 .1 .1 .0)));
     };
     columns = lengths .1;
@@ -353,6 +385,9 @@ accepted i e = record {
     lengths : SameLengths q × Columns (i .lent)
     lengths = lengths-of q (i .lent) (same-true (groups q (memoLengths (i .lent)) (logLengths (i .lent))) (not-false (allSame (groups q (memoLengths (i .lent)) (logLengths (i .lent)))) (none-refuse 0 (not (allSame (groups q (memoLengths (i .lent)) (logLengths (i .lent))))) (a .0))))
 
+    tables : (j : ℕ) → j < tableCount (q .graph) → (getD (q .graph .rows) j 0 ≤ maxRows) × (getD (q .scans) j 0 ≤ maxScan)
+    tables j l = table-true q j (none-bad (badTable (q .graph .rows) (q .scans)) 0 (tableCount (q .graph)) (a .1 .1 .0) j (omega arith) (omega arith))
+
     some-tables : (1 ≤ tableCount (q .graph)) × (tableCount (q .graph) ≤ maxTables)
     some-tables = range 1 maxTables (tableCount (q .graph)) (not-false (tablesFit (tableCount (q .graph))) (none-refuse 1 (not (tablesFit (tableCount (q .graph)))) (a .1 .0)))
 
@@ -363,17 +398,17 @@ accepted i e = record {
 pub accepted-none : (i : Input) → Accepted i → verdict i ≡ none
 unfolding verdict checks checksOf rooms AllNone
 accepted-none i c = all-none (checks i ++ rooms i) (
-  refuse-none 1 (not (allSame (groups q (memoLengths (i .lent)) (logLengths (i .lent))))) (rw (true-same (groups q (memoLengths (i .lent)) (logLengths (i .lent))) (of-lengths q (i .lent) (s .lengths) (c .checked .columns)))),
+  refuse-none 1 (not (allSame (groups q (memoLengths (i .lent)) (logLengths (i .lent))))) (rw (true-same (groups q (memoLengths (i .lent)) (logLengths (i .lent))) (of-lengths q (i .lent) lengths (c .checked .columns)))),
   (
-    refuse-none 2 (not (tablesFit (tableCount (q .graph)))) (rw (of-range 1 maxTables (tableCount (q .graph)) (s .some-table) (s .few-tables))),
+    refuse-none 2 (not (tablesFit (tableCount (q .graph)))) (rw (of-range 1 maxTables (tableCount (q .graph)) (g .some-table) (g .few-tables))),
     (
-      bad-none (badTable q) 0 (tableCount (q .graph)) (λ j l u. true-table q j (s .tables j (omega arith))),
+      bad-none (badTable (q .graph .rows) (q .scans)) 0 (tableCount (q .graph)) (λ j l u. true-table q j (g .rows j (omega arith)) (s .scans j (omega arith))),
       (
         refuse-none 4 (not (methodsFit (methodCount q))) (rw (of-range 1 maxMethods (methodCount q) (s .some-method) (s .few-methods))),
         (
-          bad-none (badMethod q) 0 (methodCount q) (λ j l u. true-method q j (s .methods j (omega arith))),
+          bad-none (badMethod (q .fixed) (q .perOuter) (q .perInner) (q .perResult)) 0 (methodCount q) (λ j l u. true-method q j (s .methods j (omega arith))),
           (
-            bad-none (badEdge (q .graph)) 0 (edgeCount (q .graph)) (λ j l u. true-edge (q .graph) j (s .edges j (omega arith))),
+            bad-none (badEdge (q .graph)) 0 (edgeCount (q .graph)) (λ j l u. true-edge (q .graph) j (g .edges j (omega arith))),
             (
               refuse-none 10 (not (isYes (connected? (q .graph) (full (tableCount (q .graph)))))) (rw (true-yes (connected? (q .graph) (full (tableCount (q .graph)))) (s .connected))),
               (
@@ -402,3 +437,9 @@ accepted-none i c = all-none (checks i ++ rooms i) (
 
     s : Sound q
     s = c .checked .sound
+
+    g : GoodGraph (q .graph)
+    g = s .graph
+
+    lengths : SameLengths q
+    lengths = record { scans = s .scan-list; right = g .right; divisors = g .divisors; outer = s .outer-list; inner = s .inner-list; result = s .result-list }
