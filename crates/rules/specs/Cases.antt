@@ -2,7 +2,7 @@
 use mathlib.Core.Path.{_≡_, refl}
 use mathlib.Core.Logic.{inr, inl}
 use mathlib.Core.List.{List, [], _∷_, map}
-use Prim.Native.Nat.{ℕ, suc, _+_, _*_}
+use Prim.Native.Nat.{ℕ, _*_}
 use native.Mathlib.Omega.{arith}
 use lib.ListN.{length, replicate, take, drop}
 use Rattle.rules.specs.declared.Scheme.the-variants.{CutCandidates}
@@ -14,7 +14,7 @@ use Rattle.rules.specs.Skips.{vectors}
 use Rattle.rules.specs.Shares.{share}
 use Rattle.rules.specs.declared.Verdict.{Verdict}
 use Rattle.rules.specs.Refusals.{Memory, Input, verdict}
-use Rattle.rules.specs.Answers.{Answer, Outcome, Row, Given}
+use Rattle.rules.specs.Answers.{Row}
 use Rattle.rules.specs.laws.Choice.{Choice}
 use Rattle.rules.specs.laws.Reference.{offersBelow}
 use Rattle.rules.specs.laws.Outcome.{bestAt, outcome, computed, outcome-planned}

@@ -3,7 +3,6 @@ use mathlib.Core.Path.{_≡_}
 use Prim.Native.Nat.{ℕ, _≤_, _<_}
 use lib.ListN.{length, getD}
 use Rattle.rules.specs.declared.Scheme.{Scheme}
-use Rattle.rules.specs.declared.NewScheme.{NewScheme}
 use Rattle.rules.specs.declared.NewScheme.the-variants.{Good}
 use Rattle.rules.specs.Limits.{maxTables, maxRows, maxScan, maxDivisor, maxMethods, maxFixed, maxCoefficient, maxWorkers}
 use Rattle.rules.specs.Kinds.{schemeOf}

@@ -1,21 +1,17 @@
 -- What the constructors of the types answer, and the numbers that 01 gives their cases.
-use mathlib.Core.Bool.{Bool, true, false, cond, _&&_, not}
+use mathlib.Core.Bool.{cond, _&&_, not}
 use Prim.Native.Nat.{ℕ, zero, suc}
-use lib.Dec.{eqb, leb}
-use Rattle.rules.specs.declared.Table.{Table}
+use lib.Dec.{eqb}
 use Rattle.rules.specs.declared.NewTable.{NewTable}
 use Rattle.rules.specs.declared.NewTable.the-variants.{Good as GoodTable, Over as OverTable}
-use Rattle.rules.specs.declared.Edge.{Edge}
 use Rattle.rules.specs.declared.NewEdge.{NewEdge}
 use Rattle.rules.specs.declared.NewEdge.the-variants.{Good as GoodEdge, Outside, Itself, Divisor}
-use Rattle.rules.specs.declared.Method.{Method}
 use Rattle.rules.specs.declared.NewMethod.{NewMethod}
 use Rattle.rules.specs.declared.NewMethod.the-variants.{Good as GoodMethod, Over as OverMethod}
 use Rattle.rules.specs.declared.Scheme.{Scheme}
 use Rattle.rules.specs.declared.Scheme.the-variants.{CutCandidates, CutRows, DealRows, DealInner}
 use Rattle.rules.specs.declared.NewScheme.{NewScheme}
 use Rattle.rules.specs.declared.NewScheme.the-variants.{Good as GoodScheme, Unknown}
-use Rattle.rules.specs.declared.Crew.{Crew}
 use Rattle.rules.specs.declared.NewCrew.{NewCrew}
 use Rattle.rules.specs.declared.NewCrew.the-variants.{Good as GoodCrew, Refused}
 use Rattle.rules.specs.Limits.{inRange, tableFits, methodFits, maxDivisor, maxWorkers}

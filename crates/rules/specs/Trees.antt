@@ -1,10 +1,9 @@
 -- Trees over a query, their cost, the least cost of a set, and the join that 01's tie rule picks.
 use mathlib.Core.Path.{_≡_}
 use Prim.Native.Nat.{ℕ, _+_, _*_, _≤_}
-use Rattle.rules.specs.declared.JoinStep.{JoinStep}
 use Rattle.rules.specs.declared.Step.{Step}
 use Rattle.rules.specs.declared.Step.the-variants.{Scan, Join}
-use Rattle.rules.specs.Sets.{Disjoint, Splits, single}
+use Rattle.rules.specs.Sets.{Disjoint, single}
 use Rattle.rules.specs.Query.{Graph, Query, IsTable, IsMethod, Between, at}
 use Rattle.rules.specs.Estimate.{estimate}
 

@@ -1,10 +1,9 @@
 -- "These versions are to be shown shut out": six wrong planners, each refuted on C1's query.
-use mathlib.Core.Path.{_≡_, refl, sym, ap, _∙_}
+use mathlib.Core.Path.{_≡_, ap}
 use mathlib.Core.List.{List, [], _∷_}
 use Prim.Native.Nat.{ℕ, _<_}
 use native.Mathlib.Omega.{arith}
 use lib.ListN.{getD, replicate}
-use Rattle.rules.specs.Query.{Query}
 use Rattle.rules.specs.Refusals.{Memory, Input}
 use Rattle.rules.specs.Answers.{Outcome, Planned}
 use Rattle.rules.specs.Cases.{example, lend, mark, alone, pair}

@@ -1,31 +1,24 @@
 -- Any two outcomes that `Planned` allows for one input are equal; the finished memo does not depend on the crew; the counts sum up.
 use mathlib.Core.Path.{_≡_, refl, sym, ap, _∙_, subst}
-use mathlib.Core.Logic.{_⊎_, inl, inr}
-use mathlib.Core.List.{List, [], _∷_, _++_, map}
+use mathlib.Core.List.{List, [], _∷_, map}
 use Prim.Native.Nat.{ℕ, zero, suc, _+_, _-_, _≤_, _<_}
-use native.Mathlib.Decide.{decLt, decLe}
+use native.Mathlib.Decide.{decLt}
 use native.Mathlib.Nat.{zero-add}
 use native.Mathlib.Omega.{arith}
 use lib.ListN.{length, getD, drop}
 use lib.Seq.{ext-getD, getD-drop}
-use Rattle.rules.specs.declared.Scheme.{Scheme}
-use Rattle.rules.specs.declared.NewScheme.{NewScheme}
-use Rattle.rules.specs.declared.NewScheme.the-variants.{Good}
 use Rattle.rules.specs.Limits.{maxWorkers}
-use Rattle.rules.specs.Kinds.{schemeOf}
 use Rattle.rules.specs.Lists.{over}
 use Rattle.rules.specs.Estimate.{estimate}
 use Rattle.rules.specs.Skips.{skips}
 use Rattle.rules.specs.Sets.{size, full}
 use Rattle.rules.specs.Query.{Query, tableCount}
-use Rattle.rules.specs.Trees.{Least, Pick}
+use Rattle.rules.specs.Trees.{Least}
 use Rattle.rules.specs.Rows.{memo}
 use Rattle.rules.specs.Shares.{Numbered, queue}
-use Rattle.rules.specs.Turns.{Hand, Sizes, only}
-use Rattle.rules.specs.declared.Verdict.{Verdict}
+use Rattle.rules.specs.Turns.{Hand, only}
 use Rattle.rules.specs.Refusals.{Memory, Input, verdict}
-use Rattle.rules.specs.Checked.{Accepted}
-use Rattle.rules.specs.Answers.{Answer, Outcome, each, perWorker, refusal, Refused, Spared, Row, Filled, InTurn, shown, Logged, Counted, Given, Planned}
+use Rattle.rules.specs.Answers.{Outcome, each, refusal, Refused, Spared, Row, Filled, InTurn, Logged, Counted, Given, Planned}
 use Rattle.rules.specs.laws.Lists.{sum}
 use Rattle.rules.specs.laws.Bellman.{least-unique, pick-unique}
 use Rattle.rules.specs.laws.Handed.{stands-unique}

@@ -1,9 +1,9 @@
 -- Bellman's principle: the best choice over the splits of S, priced with best parts, is the least cost of S and the pick of 01's tie rule.
-use mathlib.Core.Path.{_≡_, refl, sym, ap, _∙_, subst}
-use Prim.Native.Nat.{ℕ, zero, suc, _+_, _-_, _≤_, _<_}
+use mathlib.Core.Path.{_≡_, refl, sym, ap, _∙_}
+use Prim.Native.Nat.{ℕ, _+_, _-_, _≤_, _<_}
 use native.Mathlib.Nat.{le-antisymm}
 use native.Mathlib.Omega.{arith}
-use Rattle.rules.specs.laws.Choice.{Choice, NoLater, Best}
+use Rattle.rules.specs.laws.Choice.{Choice, Best}
 use Rattle.rules.specs.Sets.{size}
 use Rattle.rules.specs.laws.Sets.{size-sum, size-pow, size-pos, holds-pos}
 use lib.Pow.{pow-pos}

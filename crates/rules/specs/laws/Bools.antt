@@ -1,8 +1,8 @@
 -- Tests, and searches among the numbers below n, as facts.
-use mathlib.Core.Path.{_≡_, refl, sym, ap, _∙_}
+use mathlib.Core.Path.{_≡_, refl}
 use mathlib.Core.Logic.{_⊎_, inl, inr}
 use mathlib.Core.Bool.{Bool, true, false, cond, _&&_, _||_}
-use Prim.Native.Nat.{ℕ, zero, suc, _+_, _≤_, _<_}
+use Prim.Native.Nat.{ℕ, zero, suc, _≤_, _<_}
 use native.Mathlib.Nat.{le-refl}
 use native.Mathlib.Decide.{ℕ-discrete}
 use native.Mathlib.Omega.{arith}
@@ -95,9 +95,6 @@ yes-true (no n) e = absurd (not-both false e refl)
 pub true-yes : {A : Type 0} (d : Dec A) → A → isYes d ≡ true
 true-yes (yes a) x = refl
 true-yes (no n) x = absurd (n x)
-
-pub yes-false : {A : Type 0} (d : Dec A) → isYes d ≡ false → A → ⊥
-yes-false d e x = not-both (isYes d) (true-yes d x) e
 
 -- a test that holds exactly where a statement does decides it
 unfoldable pub decideBy : {A : Type 0} (b : Bool) → (b ≡ true → A) → (A → b ≡ true) → Dec A

@@ -3,7 +3,7 @@ use mathlib.Core.Path.{_≡_, refl, sym, ap, _∙_, fun-ext}
 use mathlib.Core.Logic.{_⊎_, inl, inr, ⊎-elim}
 use mathlib.Core.Bool.{Bool, true, false, _&&_}
 use mathlib.Core.List.{List, [], _∷_, _++_, map, List·Memᴰ, List·Memᴰ·not-nil, List·Memᴰ·append-cases, Memᴰ·append-left, Memᴰ·append-right, Memᴰ·cast, Memᴰ·map, Memᴰ·of-map}
-use Prim.Native.Nat.{ℕ, zero, suc, _+_, _-_, _/_, _≤_, _<_}
+use Prim.Native.Nat.{ℕ, zero, suc, _+_, _-_, _≤_, _<_}
 use native.Mathlib.Decide.{ℕ-discrete}
 use native.Mathlib.Omega.{arith}
 use lib.Dec.{eqb}
@@ -14,7 +14,6 @@ use Rattle.rules.specs.declared.Scheme.{Scheme}
 use Rattle.rules.specs.Lists.{keep, isYes}
 use Rattle.rules.specs.Sets.{Disjoint, Splits, size, holds}
 use Rattle.rules.specs.Query.{Graph, tableCount}
-use Rattle.rules.specs.Connected.{Connected}
 use Rattle.rules.specs.Trees.{Joinable}
 use Rattle.rules.specs.Rows.{rowsOf}
 use Rattle.rules.specs.Candidates.{Candidate, candidates, candidatesOf, joinable}
@@ -29,9 +28,9 @@ use Rattle.rules.specs.laws.Decide.{between?}
 use Rattle.rules.specs.laws.Rows.{rows-all, rows-only, rows-once}
 use Rattle.rules.specs.laws.Handed.{JoinablePair, Complete}
 use Rattle.rules.specs.laws.Shares.{One, owns-one}
-use Rattle.rules.specs.laws.Candidates.{Has, candidates-all, Met, met-of, numbered-in, numbered-of, numbered-length, numbered-once, SameSets, candidates-apart, numbered-pair}
-use Rattle.rules.specs.laws.Turns.{Entries, Below, run-below, run-queues}
-use Rattle.rules.specs.laws.Hands.{HandedBy, run-all, run-only, run-once}
+use Rattle.rules.specs.laws.Candidates.{Has, candidates-all, met-of, numbered-in, numbered-of, numbered-length, numbered-once, SameSets, candidates-apart, numbered-pair}
+use Rattle.rules.specs.laws.Turns.{Entries, Below, run-below, run-queues, counts-sum, sum-same}
+use Rattle.rules.specs.laws.Hands.{HandedBy, run-all, run-only, run-once, queues-total}
 
 -- ---- joinable, as a fact
 joinable-true : (g : Graph) (c : Candidate) → joinable g c ≡ true → Joinable g (c .driving) (c .inner)
@@ -70,16 +69,22 @@ module _ (g : Graph) (scheme : Scheme) (m s : ℕ) where
       let r = numbered-of 0 (candidates g s) x i in
       owns-one scheme (length (met g s)) m x l (omega (arith, r .2, numbered-length 0 (candidates g s))) (met-of (rowsOf g) s (x .candidate) (r .0) .behind .row)
 
-  mine-one : 0 < m → (x : Numbered) → List·Memᴰ x (met g s) → joinable g (x .candidate) ≡ true → One (λ w. mine w x) m
+  mine-one : (x : Numbered) → joinable g (x .candidate) ≡ true → (o : One (λ w. owns scheme (length (met g s)) m w x) m) → One (λ w. mine w x) m
   unfolding mine
-  mine-one l x i j =
-      let o = met-one l x i in
-      record {
-        who = o .who;
-        worker = o .worker;
-        yes-it = and-true (owns scheme (length (met g s)) m (o .who) x) (joinable g (x .candidate)) (o .yes-it) j;
-        no-other = λ v e. o .no-other v (and-true-l (owns scheme (length (met g s)) m v x) (joinable g (x .candidate)) e);
-      }
+  mine-one x j o = record {
+    who = o .who;
+    worker = o .worker;
+    yes-it = and-true (owns scheme (length (met g s)) m (o .who) x) (joinable g (x .candidate)) (o .yes-it) j;
+    no-other = λ v e. o .no-other v (and-true-l (owns scheme (length (met g s)) m v x) (joinable g (x .candidate)) e);
+  }
+
+  mine-none : (x : Numbered) → joinable g (x .candidate) ≡ false → (w : ℕ) → mine w x ≡ false
+  unfolding mine
+  mine-none x j w = rw j (both-false (owns scheme (length (met g s)) m w x))
+    where
+      both-false : (b : Bool) → (b && false) ≡ false
+      both-false true = refl
+      both-false false = refl
 
   module _ {ts u : List ℕ} {h : List (Hand Numbered)} (workers : 0 < m) (t : Entries m ts) (run : Run m (queue g scheme m s) ts h u) where
     run-mine : Run m (λ w. keep (mine w) (met g s)) ts h u
@@ -91,13 +96,14 @@ module _ (g : Graph) (scheme : Scheme) (m s : ℕ) where
 
     -- each joinable candidate is handed BY ITS OWN WORKER
     pub hands-all : (x : Numbered) → List·Memᴰ x (met g s) → joinable g (x .candidate) ≡ true → (o : One (λ w. owns scheme (length (met g s)) m w x) m) → HandedBy (o .who) x h
-    unfolding mine
-    hands-all x i j o = run-all mine (met g s) run-mine x i (record {
-      who = o .who;
-      worker = o .worker;
-      yes-it = and-true (owns scheme (length (met g s)) m (o .who) x) (joinable g (x .candidate)) (o .yes-it) j;
-      no-other = λ v e. o .no-other v (and-true-l (owns scheme (length (met g s)) m v x) (joinable g (x .candidate)) e);
-    })
+    unfolding mine-one
+    hands-all x i j o = run-all mine (met g s) run-mine x i (mine-one x j o)
+
+    -- so AS MANY PAIRS ARE HANDED as candidates are joinable
+    pub hands-count : length h ≡ length (keep (λ (x : Numbered). joinable g (x .candidate)) (met g s))
+    hands-count =
+        sym (counts-sum m h (run-below run-mine t)) ∙ sum-same (λ w. length (only w h)) (λ w. length (keep (mine w) (met g s))) m (λ w l. ap length (run-queues run-mine w l))
+        ∙ queues-total mine (λ (x : Numbered). joinable g (x .candidate)) m (met g s) (λ x i j. mine-one x j (met-one workers x i)) (λ x i j. mine-none x j)
 
     -- NOTHING ELSE is handed, and by nobody else
     pub hands-only : (x : Hand Numbered) → List·Memᴰ x h → List·Memᴰ (x .candidate) (met g s) × (owns scheme (length (met g s)) m (x .worker) (x .candidate) ≡ true) × (joinable g (x .candidate .candidate) ≡ true)

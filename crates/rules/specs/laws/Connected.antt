@@ -1,8 +1,8 @@
 -- Connected sets: they join, they split, and each has a tree.
-use mathlib.Core.Path.{_≡_, refl, sym, ap, _∙_, subst}
+use mathlib.Core.Path.{_≡_, refl, sym, ap, _∙_}
 use mathlib.Core.Logic.{_⊎_, inl, inr, ⊎-elim, ⊎-swap}
 use Prim.Native.Nat.{ℕ, zero, suc, _+_, _-_, _≤_, _<_}
-use native.Mathlib.Decide.{decLt, ℕ-discrete}
+use native.Mathlib.Decide.{decLt}
 use native.Mathlib.Omega.{arith}
 use Rattle.rules.specs.Sets.{Splits, holds, single, Disjoint, size}
 use Rattle.rules.specs.laws.Sets.{holds-apart, holds-single, holds-single-only, holds-out, holds-some, holds-pos, size-pos, size-pow, size-zero, splits-inner, splits-outer, splits-size, union-of, disjoint-sym}

@@ -1,7 +1,7 @@
 -- Tests that compute, and the decisions made of them: an edge between two sets, a connected set.
-use mathlib.Core.Path.{_≡_, refl, sym, ap, _∙_, subst}
+use mathlib.Core.Path.{_≡_, refl}
 use mathlib.Core.Logic.{_⊎_, inl, inr}
-use mathlib.Core.Bool.{Bool, true, false, cond, _&&_, _||_}
+use mathlib.Core.Bool.{Bool, true, cond, _&&_, _||_}
 use mathlib.Core.List.{List}
 use Prim.Native.Nat.{ℕ, zero, suc, _+_, _-_, _^_, _≤_, _<_}
 use native.Mathlib.Decide.{decLt}
@@ -9,7 +9,6 @@ use native.Mathlib.Omega.{arith}
 use lib.Dec.{eqb, ltb}
 use lib.ListN.{length, getD}
 use borrow.Author.Tests.{eqb-true, eq-eqb, ne-eqb, ltb-true, lt-ltb}
-use Rattle.rules.specs.Lists.{isYes}
 use Rattle.rules.specs.Sets.{Splits, holds, has, single, size}
 use Rattle.rules.specs.Query.{Graph, IsTable, Between, tableCount, edgeCount}
 use Rattle.rules.specs.Connected.{Connected}

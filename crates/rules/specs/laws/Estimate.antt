@@ -1,19 +1,22 @@
 -- The estimate lies between 1 and its cap, and every cost of a valid tree is below 10^17.
-use mathlib.Core.Path.{_≡_, refl, sym, ap, _∙_}
-use mathlib.Core.Logic.{_⊎_, inl, inr}
+use mathlib.Core.Path.{_≡_, refl}
 use mathlib.Core.Bool.{Bool, true, false, cond}
-use Prim.Native.Nat.{ℕ, zero, suc, _+_, _-_, _*_, _/_, _≤_, _<_, min, max}
+use mathlib.Core.List.{List}
+use Prim.Native.Nat.{ℕ, zero, suc, _+_, _-_, _*_, _≤_, _<_, max}
 use native.Mathlib.Nat.{le-refl, mul-le-mul}
+use native.Mathlib.Decide.{decLt}
 use native.Mathlib.Omega.{arith}
 use lib.Dec.{eqb}
-use lib.ListN.{getD}
+use lib.ListN.{length, getD, List·getD-eq-default}
 use Rattle.rules.specs.Limits.{maxTables, maxScan, maxFixed, maxCoefficient, maxEstimate, costBound}
 use Rattle.rules.specs.Sets.{holds, size}
-use Rattle.rules.specs.Query.{Graph, Query, tableCount, edgeCount, at}
+use Rattle.rules.specs.Query.{Graph, Query, tableCount, edgeCount, methodCount, at}
 use Rattle.rules.specs.Estimate.{joinsAt, divided, byEdges, byLower, withTable, running, estimate}
-use Rattle.rules.specs.Trees.{Tree, scan, join, tablesOf, Valid, price, costOf}
-use Rattle.rules.specs.laws.Bools.{true-or-false}
+use Rattle.rules.specs.Trees.{Tree, scan, join, tablesOf, Valid, price, costOf, Least}
+use Rattle.rules.specs.Checked.{Sound}
 use Rattle.rules.specs.laws.Sets.{size-pow, size-sum}
+use Rattle.rules.specs.laws.Connected.{connected-tree}
+use Rattle.rules.specs.laws.Rows.{size-count}
 
 -- what holds of both holds of the one that a test picks
 either : (P : ℕ → Type 0) (b : Bool) {x y : ℕ} → P x → P y → P (cond b x y)
@@ -84,3 +87,28 @@ module _ (q : Query) (lim : Limited q) where
   -- EVERY COST IS BELOW 10^17, for sets of up to as many tables as a query may have
   pub cost-lt : (t : Tree) → Valid q t → size (tablesOf t) ≤ maxTables → costOf q t < costBound
   cost-lt t v l = omega (arith, cost-le t v)
+
+-- ---- of a query that passes the checks
+-- a list whose elements are within a limit reads within it at every index
+read-le : (l : List ℕ) (n limit i : ℕ) → length l ≡ n → ((j : ℕ) → j < n → getD l j 0 ≤ limit) → getD l i 0 ≤ limit
+read-le l n limit i e h = go (decLt i n)
+  where
+    go : Dec (i < n) → getD l i 0 ≤ limit
+    go (yes a) = h i a
+    go (no z) = let d : getD l i 0 ≡ 0 = List·getD-eq-default l 0 {n = i} (omega arith) in omega arith
+
+pub sound-limited : (q : Query) → Sound q → Limited q
+sound-limited q s = record {
+  scans = λ i. read-le (q .scans) (tableCount (q .graph)) maxScan i (s .scan-list) (s .scans);
+  fixed = λ i. read-le (q .fixed) (methodCount q) maxFixed i refl (λ j l. s .methods j l .fixed);
+  outer = λ i. read-le (q .perOuter) (methodCount q) maxCoefficient i (s .outer-list) (λ j l. s .methods j l .outer);
+  inner = λ i. read-le (q .perInner) (methodCount q) maxCoefficient i (s .inner-list) (λ j l. s .methods j l .inner);
+  result = λ i. read-le (q .perResult) (methodCount q) maxCoefficient i (s .result-list) (λ j l. s .methods j l .result);
+}
+
+-- "Every cost is below 10^17."
+pub tree-below : (q : Query) → Sound q → (t : Tree) → Valid q t → costOf q t < costBound
+tree-below q s t v = cost-lt q (sound-limited q s) t v (omega (arith, size-count (q .graph) (tablesOf t) (connected-tree q t v), s .graph .few-tables))
+
+pub least-below : (q : Query) → Sound q → (S c : ℕ) → Least q S c → c < costBound
+least-below q s S c l = rw (l .costs) at (tree-below q s (l .tree) (l .valid))

@@ -1,11 +1,10 @@
 -- A memo row while its pairs are handed, in any order: the best of the choices handed so far. Only which pairs were handed counts.
-use mathlib.Core.Path.{_≡_, refl, sym, ap, _∙_, subst}
+use mathlib.Core.Path.{_≡_, refl, sym, ap, _∙_}
 use mathlib.Core.Logic.{_⊎_, inl, inr, ⊎-elim}
-use mathlib.Core.List.{List, [], _∷_, _++_, List·Memᴰ, List·Memᴰ·head, List·Memᴰ·tail, List·Memᴰ·append-cases, List·Memᴰ·eq-of-singleton, Memᴰ·append-left, Memᴰ·append-right, List·Memᴰ·not-nil}
-use Prim.Native.Nat.{ℕ, zero, suc, _+_, _≤_, _<_}
+use mathlib.Core.List.{List, [], _∷_, _++_, List·Memᴰ, List·Memᴰ·head, List·Memᴰ·append-cases, List·Memᴰ·eq-of-singleton, Memᴰ·append-left, Memᴰ·append-right}
+use Prim.Native.Nat.{ℕ, _+_}
 use native.Mathlib.Nat.{add-comm, le-antisymm}
-use native.Mathlib.Omega.{arith}
-use Rattle.rules.specs.laws.Choice.{Choice, NoLater, Best, Either, best-same, best-keep, best-take, best-unique, no-later-total}
+use Rattle.rules.specs.laws.Choice.{Choice, NoLater, Best, Either, best-same, best-keep, best-take, best-unique}
 use Rattle.rules.specs.Query.{Graph, Query, IsMethod}
 use Rattle.rules.specs.Connected.{Connected}
 use Rattle.rules.specs.Trees.{Joinable, Least, price}

@@ -3,7 +3,7 @@ use mathlib.Core.Path.{_≡_, refl, sym, ap, _∙_}
 use mathlib.Core.Logic.{_⊎_, inl, inr, ⊎-elim}
 use mathlib.Core.Bool.{Bool, true, false, cond}
 use mathlib.Core.List.{List, [], _∷_, map, List·Memᴰ, List·Memᴰ·head, List·Memᴰ·tail, List·Memᴰ·cases-cons, List·Memᴰ·not-nil, Memᴰ·of-map, Memᴰ·cast}
-use Prim.Native.Nat.{ℕ, zero, suc, _+_, _≤_, _<_}
+use Prim.Native.Nat.{ℕ, suc, _≤_, _<_}
 use native.Mathlib.Decide.{decLt}
 use native.Mathlib.Omega.{arith}
 use lib.Dec.{eqb}
@@ -11,7 +11,7 @@ use lib.ListN.{length}
 use borrow.Author.Tests.{eqb-true, eq-eqb, ne-eqb}
 use Rattle.rules.specs.Lists.{keep}
 use Rattle.rules.specs.Turns.{Hand, Run, only}
-use Rattle.rules.specs.laws.Bools.{true-or-false, not-both}
+use Rattle.rules.specs.laws.Bools.{true-or-false}
 use Rattle.rules.specs.laws.Lists.{keep-in, keep-of, Once}
 use Rattle.rules.specs.laws.Shares.{One}
 use Rattle.rules.specs.laws.Turns.{run-queues, sumTo, sum-bump, sum-same, sum-zero, Entries, Below, run-below}

@@ -1,22 +1,13 @@
 -- What the constructors answer, test by test; scheme numbers, there and back.
 use mathlib.Core.Path.{_≡_, refl}
-use mathlib.Core.Bool.{Bool, true, false}
+use mathlib.Core.Bool.{true, false}
 use Prim.Native.Nat.{ℕ, zero, suc, _≤_, _<_}
 use Rattle.rules.specs.declared.Scheme.{Scheme}
 use Rattle.rules.specs.declared.Scheme.the-variants.{CutCandidates, CutRows, DealRows, DealInner}
-use Rattle.rules.specs.declared.NewScheme.{NewScheme}
 use Rattle.rules.specs.declared.NewScheme.the-variants.{Good, Unknown}
-use Rattle.rules.specs.declared.Table.{Table}
-use Rattle.rules.specs.declared.NewTable.{NewTable}
 use Rattle.rules.specs.declared.NewTable.the-variants.{Good as GoodTable, Over as OverTable}
-use Rattle.rules.specs.declared.Method.{Method}
-use Rattle.rules.specs.declared.NewMethod.{NewMethod}
 use Rattle.rules.specs.declared.NewMethod.the-variants.{Good as GoodMethod, Over as OverMethod}
-use Rattle.rules.specs.declared.Edge.{Edge}
-use Rattle.rules.specs.declared.NewEdge.{NewEdge}
 use Rattle.rules.specs.declared.NewEdge.the-variants.{Good as GoodEdge, Outside, Itself, Divisor}
-use Rattle.rules.specs.declared.Crew.{Crew}
-use Rattle.rules.specs.declared.NewCrew.{NewCrew}
 use Rattle.rules.specs.declared.NewCrew.the-variants.{Good as GoodCrew, Refused}
 use borrow.Author.Tests.{eq-eqb, ne-eqb, le-leb, lt-leb}
 use Rattle.rules.specs.Limits.{inRange, maxRows, maxScan, maxDivisor, maxFixed, maxCoefficient, maxWorkers}

@@ -1,14 +1,13 @@
 -- An outcome that computes, proved to be one that `Planned` allows: so for every input there is one, and the cases are computed by it.
-use mathlib.Core.Path.{_≡_, refl, sym, ap, _∙_, subst}
-use mathlib.Core.Logic.{_⊎_, inl, inr}
-use mathlib.Core.Bool.{Bool, true, false, cond}
-use mathlib.Core.List.{List, [], _∷_, _++_, map, List·Memᴰ, List·Memᴰ·head, List·Memᴰ·tail, List·Memᴰ·not-nil}
-use Prim.Native.Nat.{ℕ, zero, suc, _+_, _-_, _≤_, _<_, min}
+use mathlib.Core.Path.{_≡_, refl, ap, _∙_, subst}
+use mathlib.Core.Bool.{cond}
+use mathlib.Core.List.{List, [], _∷_, map, List·Memᴰ, List·Memᴰ·head, List·Memᴰ·tail, List·Memᴰ·not-nil}
+use Prim.Native.Nat.{ℕ, zero, suc, _+_, _-_, _≤_, _<_}
 use native.Mathlib.Nat.{zero-add}
 use native.Mathlib.Omega.{arith}
 use lib.Count.{ones, onesIn}
-use lib.Dec.{eqb, leb}
-use lib.ListN.{length, getD, take, drop, length-take}
+use lib.Dec.{eqb}
+use lib.ListN.{length, getD, take, length-take}
 use borrow.Author.Tests.{eq-eqb, ne-eqb, le-leb}
 use Rattle.rules.specs.declared.Scheme.{Scheme}
 use Rattle.rules.specs.declared.NewScheme.{NewScheme}
@@ -26,10 +25,9 @@ use Rattle.rules.specs.Candidates.{withRow, across, within, driven, cand
 use Rattle.rules.specs.Shares.{Numbered, numbered, cut, inCut, owns, met, share, queue}
 use Rattle.rules.specs.Turns.{Hand, Sizes, only}
 use Rattle.rules.specs.Log.{Pair, pairOf, union, Stands}
-use Rattle.rules.specs.declared.Verdict.{Verdict}
-use Rattle.rules.specs.Refusals.{Memory, Input, refuse, firstBad, firstOf, allAre, allSame, groups, badTable, badMethod, joinedBelow, repeats, edgeOr, badEdge, isRefused, badTurn, checksOf, checks, rooms, verdict}
+use Rattle.rules.specs.Refusals.{Input, refuse, firstBad, firstOf, allAre, allSame, groups, badTable, badMethod, joinedBelow, repeats, edgeOr, badEdge, isRefused, badTurn, checksOf, checks, rooms, verdict}
 use Rattle.rules.specs.Checked.{Accepted}
-use Rattle.rules.specs.Answers.{Answer, Outcome, each, perWorker, refusal, Refused, Spared, Row, Filled, InTurn, shown, upTo, Logged, Counted, Given, Planned}
+use Rattle.rules.specs.Answers.{Outcome, each, perWorker, refusal, Refused, Spared, Row, Filled, shown, upTo, Logged, Counted, Given, Planned}
 use Rattle.rules.specs.laws.Bools.{find}
 use Rattle.rules.specs.laws.Decide.{between?, connected?}
 use Rattle.rules.specs.laws.Lists.{at-in, at-map, length-map, over-length, over-spare, over-at}

@@ -1,5 +1,5 @@
 -- The verdict is 0 exactly for the accepted inputs.
-use mathlib.Core.Path.{_≡_, refl, sym, ap, _∙_}
+use mathlib.Core.Path.{_≡_, refl}
 use mathlib.Core.Logic.{_⊎_, inl, inr, ⊎-elim}
 use mathlib.Core.Bool.{Bool, true, false, cond, _&&_, _||_, not}
 use mathlib.Core.List.{List, [], _∷_, _++_}
@@ -9,16 +9,14 @@ use native.Mathlib.Numerals.{add-one}
 use native.Mathlib.Omega.{arith}
 use lib.Dec.{eqb, leb, ltb}
 use lib.ListN.{length, getD}
-use borrow.Author.Tests.{eqb-true, eqb-false, eq-eqb, ne-eqb, ltb-true, ltb-false, lt-ltb, le-ltb, leb-true, leb-false, le-leb, not-true, not-false}
+use borrow.Author.Tests.{eqb-true, eqb-false, eq-eqb, ne-eqb, ltb-true, ltb-false, lt-ltb, le-ltb, leb-true, le-leb, not-false}
 use Rattle.rules.specs.declared.Verdict.{Verdict}
 use Rattle.rules.specs.declared.Edge.{Edge}
-use Rattle.rules.specs.declared.NewEdge.{NewEdge}
 use Rattle.rules.specs.declared.NewEdge.the-variants.{Good as GoodEdge, Outside, Itself, Divisor}
 use Rattle.rules.specs.declared.Scheme.{Scheme}
 use Rattle.rules.specs.declared.NewScheme.{NewScheme}
 use Rattle.rules.specs.declared.NewScheme.the-variants.{Good as GoodScheme, Unknown}
-use Rattle.rules.specs.declared.NewCrew.{NewCrew}
-use Rattle.rules.specs.declared.NewCrew.the-variants.{Good as GoodCrew, Refused}
+use Rattle.rules.specs.declared.NewCrew.the-variants.{Refused}
 use Rattle.rules.specs.Limits.{maxTables, maxMethods, maxWorkers, maxDivisor, maxRows, maxScan, maxFixed, maxCoefficient, inRange, tablesFit, methodsFit, tableFits, methodFits}
 use Rattle.rules.specs.Kinds.{newEdge, edgeNumber, schemeOf, crewWith, newCrew}
 use Rattle.rules.specs.Lists.{isYes}
@@ -29,7 +27,7 @@ use Rattle.rules.specs.Estimate.{joinsAt}
 use Rattle.rules.specs.Rows.{memo}
 use Rattle.rules.specs.Skips.{skips}
 use Rattle.rules.specs.Refusals.{Memory, Input, refuse, firstBad, firstOf, none, allAre, allSame, memoLengths, logLengths, groups, badTable, badMethod, joinedBelow, repeats, edgeOr, badEdge, isRefused, badTurn, checksOf, checks, rooms, verdict}
-use Rattle.rules.specs.Checked.{MethodGood, EdgeGood, GoodGraph, Sound, Columns, CrewGood, Checked, Accepted}
+use Rattle.rules.specs.Checked.{MethodGood, EdgeGood, GoodGraph, Sound, Columns, CrewGood, Accepted}
 use Rattle.rules.specs.laws.Bools.{true-or-false, not-both, and-true, and-true-l, and-true-r, or-cases, or-true-l, or-true-r, yes-true, true-yes}
 use Rattle.rules.specs.laws.Decide.{connected?}
 

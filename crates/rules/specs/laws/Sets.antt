@@ -1,14 +1,14 @@
 -- Laws of sets of tables, for any width.
-use mathlib.Core.Path.{_≡_, refl, sym, ap, ap₂, _∙_, subst}
+use mathlib.Core.Path.{_≡_, refl, sym, ap, _∙_}
 use mathlib.Core.Logic.{_⊎_, inl, inr}
-use Prim.Native.Nat.{ℕ, zero, suc, _+_, _-_, _*_, _/_, _%_, _^_, _≤_, _<_, min, suc-le-suc}
+use Prim.Native.Nat.{ℕ, zero, suc, _+_, _-_, _*_, _/_, _%_, _^_, _≤_, _<_, suc-le-suc}
 use native.Mathlib.Nat.{le-refl, zero-add, le-of-suc-le-suc, div-one, add-comm}
 use native.Mathlib.Numerals.{add-one}
 use lib.Pow.{shr-shr}
 use native.Mathlib.Decide.{decLt, ℕ-discrete}
 use native.Mathlib.Omega.{arith}
-use lib.Arith.{bin-ind, half-le}
-use lib.Bits.{bitAnd, bitOr, and-step, or-disjoint, and-comm, and-zero-l}
+use lib.Arith.{bin-ind}
+use lib.Bits.{and-step, and-comm, and-zero-l}
 use lib.Count.{ones, ones-step, ones-ones}
 use Rattle.rules.specs.Sets.{holds, Disjoint, Splits, size, single}
 

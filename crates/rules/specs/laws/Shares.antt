@@ -1,7 +1,7 @@
 -- Shares: by each scheme, each candidate has exactly one worker below m.
-use mathlib.Core.Path.{_≡_, refl, sym, ap, _∙_}
-use mathlib.Core.Bool.{Bool, true, false, _&&_}
-use Prim.Native.Nat.{ℕ, zero, suc, _+_, _*_, _/_, _%_, _≤_, _<_}
+use mathlib.Core.Path.{_≡_, refl, sym}
+use mathlib.Core.Bool.{Bool, true}
+use Prim.Native.Nat.{ℕ, zero, suc, _+_, _*_, _%_, _≤_, _<_}
 use native.Mathlib.Nat.{le-trans, zero-div, mul-div-cancel-left, mul-le-mul-right, le-div-iff-mul-le, div-mul-le-self, zero-mul, mod-lt}
 use native.Mathlib.Decide.{decLt}
 use native.Mathlib.Numerals.{add-one}
@@ -10,7 +10,6 @@ use lib.Dec.{eqb, leb, ltb}
 use borrow.Author.Tests.{eqb-true, eq-eqb, ltb-true, leb-true, lt-ltb, le-leb}
 use Rattle.rules.specs.declared.Scheme.{Scheme}
 use Rattle.rules.specs.declared.Scheme.the-variants.{CutCandidates, CutRows, DealRows, DealInner}
-use Rattle.rules.specs.Candidates.{Candidate}
 use Rattle.rules.specs.Shares.{Numbered, cut, inCut, owns}
 use Rattle.rules.specs.laws.Bools.{and-true, and-true-l, and-true-r}
 
@@ -54,10 +53,6 @@ share-one T m i v w p a b = go (decLt v w) (decLt w v)
     go (yes l) d = absurd (omega (arith, a .below, b .from, cut-mono T m (v + 1) w p (omega arith)))
     go (no g) (yes l) = absurd (omega (arith, b .below, a .from, cut-mono T m (w + 1) v p (omega arith)))
     go (no g) (no h) = omega arith
-
--- a worker's share lies below T
-pub share-below : (T m w i : ℕ) → w < m → Share T m w i → i < T
-share-below T m w i l s = omega (arith, s .below, cut-mono T m (w + 1) m (omega arith) (omega arith), cut-all T m (omega arith))
 
 -- ---- as tests
 cut-share : (T m w i : ℕ) → inCut T m w i ≡ true → Share T m w i
