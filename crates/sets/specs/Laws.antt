@@ -4,7 +4,7 @@ use mathlib.Core.Logic.{_⊎_, inl, inr, ⊎-elim}
 use mathlib.Core.Bool.{true, false}
 use mathlib.Core.List.{List, [], _∷_}
 use Prim.Native.Nat.{ℕ, zero, suc, _+_, _-_, _*_, _/_, _%_, _^_, _≤_, _<_}
-use native.Mathlib.Nat.{one-mul, mod-one}
+use native.Mathlib.Nat.{one-mul, mod-one, le-antisymm}
 use native.Mathlib.Numerals.{add-one}
 use native.Mathlib.Decide.{decLt}
 use native.Mathlib.Omega.{arith}
@@ -61,6 +61,10 @@ trailing-least (suc k) S (suc j) h =
 -- below the width of the set, whatever the width that was looked at
 pub trailing-lt : (k n S : ℕ) → 0 < S → S < 2 ^ n → n ≤ k → trailingZeros k S < n
 trailing-lt k n S h l g = bit-lt n (trailingZeros k S) S l (trailing-in k S h (omega (arith, pow-mono {i = n} {j = k} g)))
+
+-- a set has one lowest table
+pub lowest-unique : {S t u : ℕ} → Lowest S t → Lowest S u → t ≡ u
+lowest-unique {S} {t} {u} a b = le-antisymm (a .least u (b .stands)) (b .least t (a .stands))
 
 -- as the code finds it: a digit's place, plus 1
 pub lowest-is : (k S : ℕ) → 0 < S → S < 2 ^ k → Lowest S (trailingZeros k S + 1)
