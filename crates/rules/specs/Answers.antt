@@ -35,7 +35,7 @@ pub record Outcome : Type 0 where
   pub answer : Answer
   pub left : Memory
 
--- f 0, f 1, .., n of them
+-- f w, f (w + 1), .., n of them
 unfoldable pub each : (ℕ → ℕ) → ℕ → ℕ → List ℕ
 each f w zero = []
 each f w (suc n) = f w ∷ each f (suc w) n
@@ -114,7 +114,7 @@ pub record Given (i : Input) (o : Outcome) : Type 0 where
   pub log : Logged (i .query) handed (i .lent) (o .left)
   pub answer : Counted (i .query) handed (o .answer)
 
--- "Every input gets a plan or a numbered refusal": the promise of planning
+-- every input gets a plan or a numbered refusal: the promise of planning
 pub record Planned (i : Input) (o : Outcome) : Type 0 where
   pub given : verdict i .number ≡ 0 → Given i o
   pub refused : 0 < verdict i .number → Refused i o

@@ -52,10 +52,11 @@ loose rows = record {
   perResult = 1 ∷ [];
 }
 
--- so many memo rows, skip cells and log entries, all holding a mark, so that what is spare can be seen
+-- what stands in lent memory before, so that what is spare can be seen
 abbrev pub mark : ℕ
 mark = 77
 
+-- so many memo rows, skip cells and log entries
 abbrev pub lend : ℕ → ℕ → ℕ → Memory
 lend rows cells log = record {
   sets = replicate rows mark;
@@ -78,9 +79,11 @@ alone q lent = record { query = q; workers = 1; scheme = 1; turns = []; lent = l
 abbrev pub pair : Input
 pair = record { query = example; workers = 2; scheme = 3; turns = 1 ∷ 1 ∷ []; lent = lend 7 11 5 }
 
+-- a verdict at place 0
 abbrev pub refused : ℕ → Verdict
 refused number = record { number = number; place = 0 }
 
+-- "Cases to prove, one table"
 pub record Cases : Type 0 where
   -- "C1 the query above, whole memo", with one row and one cell to spare
   pub C1 : outcome (alone example (lend 7 11 0)) ≡ record {
@@ -131,6 +134,7 @@ pub record Cases : Type 0 where
   -- "{1,2} stands before {1,10}"
   pub numbers-not-text : Before (1 ∷ 2 ∷ []) (1 ∷ 10 ∷ [])
 
+-- all of them hold
 pub cases : Cases
 unfolding computed Before
 cases = record {

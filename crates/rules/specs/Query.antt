@@ -15,6 +15,7 @@ pub record Graph : Type 0 where
   pub right : List ℕ
   pub divisors : List ℕ
 
+-- "a query (tables, join predicates, a cost table)"
 pub record Query : Type 0 where
   pub graph : Graph
   -- "and a scan cost": table t stands at t - 1
@@ -33,9 +34,11 @@ graphOf rows left right divisors = record { rows = rows; left = left; right = ri
 abbrev pub tableCount : Graph → ℕ
 tableCount g = length (g .rows)
 
+-- how many edges
 abbrev pub edgeCount : Graph → ℕ
 edgeCount g = length (g .left)
 
+-- how many methods
 abbrev pub methodCount : Query → ℕ
 methodCount q = length (q .fixed)
 

@@ -67,10 +67,11 @@ allSame [] = true
 allSame ([] ∷ gs) = allSame gs
 allSame ((n ∷ ks) ∷ gs) = allAre n ks && allSame gs
 
--- the lengths of the lent columns of the memo, and of the log
+-- the lengths of the lent columns of the memo
 abbrev pub memoLengths : Memory → List ℕ
 memoLengths lent = length (lent .sets) ∷ length (lent .estimates) ∷ length (lent .costs) ∷ length (lent .outers) ∷ length (lent .methods) ∷ []
 
+-- and of the log
 abbrev pub logLengths : Memory → List ℕ
 logLengths lent = length (lent .logWorkers) ∷ length (lent .logDriving) ∷ length (lent .logInner) ∷ length (lent .logCosts) ∷ []
 
@@ -133,6 +134,7 @@ checksOf q workers scheme turns memoColumns logColumns =
     ∷ firstBad (badTurn workers turns) 0 (length turns)
     ∷ []
 
+-- the same of an input
 unfoldable pub checks : Input → List Verdict
 checks i = checksOf (i .query) (i .workers) (i .scheme) (i .turns) (memoLengths (i .lent)) (logLengths (i .lent))
 

@@ -15,6 +15,7 @@ pub record Numbered : Type 0 where
   pub number : ℕ
   pub candidate : Candidate
 
+-- the candidates of the list, the first of them numbered n
 unfoldable pub numbered : ℕ → List Candidate → List Numbered
 numbered n [] = []
 numbered n (c ∷ cs) = record { number = n; candidate = c } ∷ numbered (suc n) cs

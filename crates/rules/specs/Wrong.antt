@@ -10,10 +10,11 @@ use Rattle.rules.specs.Cases.{example, lend, mark, alone, pair}
 use Rattle.rules.specs.laws.Outcome.{outcome, computed}
 use Rattle.rules.specs.laws.Answers.{planned-outcome}
 
--- C1's input, and the same with a dearer scan of table 2
+-- C1's input
 abbrev pub first : Input
 first = alone example (lend 7 11 0)
 
+-- the same with a dearer scan of table 2
 abbrev pub second : Input
 second = alone (record {
   graph = example .graph;
@@ -32,6 +33,7 @@ unlogged = record { query = example; workers = 2; scheme = 3; turns = 1 ∷ 1 �
 promised : {i : Input} (f : Outcome → ℕ) (o : Outcome) → Planned i o → f o ≡ f (outcome i)
 promised f o p = ap f (planned-outcome p)
 
+-- what no allowed outcome does
 pub record ShutOut : Type 0 where
   -- "one refusing everything"
   pub refuses-all : (o : Outcome) → Planned first o → 0 < o .answer .refusal → ⊥
@@ -48,6 +50,7 @@ pub record ShutOut : Type 0 where
   pub pair-count : (o : Outcome) → Planned first o → o .answer .pairs ≡ 4
   pub row-count : (o : Outcome) → Planned first o → o .answer .rows ≡ 6
 
+-- all of them are shut out
 pub shut-out : ShutOut
 unfolding computed
 shut-out = record {
