@@ -44,7 +44,8 @@ unfolding running
 running-pos g S zero = le-refl 1
 running-pos g S (suc k) = either (λ x. 1 ≤ x) (eqb (holds S (suc k)) 1) (table-pos g S (suc k) (running g S k) (running-pos g S k)) (running-pos g S k)
 
-running-le : (g : Graph) (S k : ℕ) → running g S k ≤ maxEstimate
+-- cut after each table
+pub running-le : (g : Graph) (S k : ℕ) → running g S k ≤ maxEstimate
 unfolding running withTable
 running-le g S zero = omega arith
 running-le g S (suc k) = either (λ x. x ≤ maxEstimate) (eqb (holds S (suc k)) 1) (omega arith) (running-le g S k)
