@@ -1,4 +1,6 @@
--- Laws that the proofs of the questions cite.
+-- What the contracts say beside rules' definitions, and the laws that the proofs cite.
+pub mod Lists
+pub mod CheckLaws
 pub mod EdgeLaws
 pub mod ConnectedLaws
 pub mod EstimateLaws

@@ -3,3 +3,4 @@
 pub mod connected;
 pub mod edges;
 pub mod estimate;
+pub mod refusals;

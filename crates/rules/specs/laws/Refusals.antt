@@ -51,7 +51,7 @@ unfolding firstOf AllNone
 all-none [] h = refl
 all-none (v ∷ vs) h = rw (eq-eqb (v .number) 0 (h .0)) (all-none vs (h .1))
 
-none-refuse : (n : ℕ) (b : Bool) → refuse (suc n) b .number ≡ 0 → b ≡ false
+pub none-refuse : (n : ℕ) (b : Bool) → refuse (suc n) b .number ≡ 0 → b ≡ false
 unfolding refuse
 none-refuse n true e = absurd (omega arith)
 none-refuse n false e = refl
@@ -60,7 +60,7 @@ refuse-none : (n : ℕ) (b : Bool) → b ≡ false → refuse n b .number ≡ 0
 unfolding refuse
 refuse-none n b e = rw e
 
-none-bad : (f : ℕ → ℕ) (i n : ℕ) → firstBad f i n .number ≡ 0 → (j : ℕ) → i ≤ j → j < i + n → f j ≡ 0
+pub none-bad : (f : ℕ → ℕ) (i n : ℕ) → firstBad f i n .number ≡ 0 → (j : ℕ) → i ≤ j → j < i + n → f j ≡ 0
 unfolding firstBad
 none-bad f i zero e j l u = absurd (omega arith)
 none-bad f i (suc n) e j l u = go (none-bad f (suc i) n) (true-or-false (eqb (f i) 0)) e
@@ -101,7 +101,7 @@ test-none false n e = absurd (omega arith)
 none-test : (b : Bool) (n : ℕ) → b ≡ true → cond b 0 n ≡ 0
 none-test b n e = rw e
 
-range : (low high n : ℕ) → inRange low high n ≡ true → (low ≤ n) × (n ≤ high)
+pub range : (low high n : ℕ) → inRange low high n ≡ true → (low ≤ n) × (n ≤ high)
 range low high n e = (leb-true low n (and-true-l (leb low n) (leb n high) e), leb-true n high (and-true-r (leb low n) (leb n high) e))
 
 of-range : (low high n : ℕ) → low ≤ n → n ≤ high → inRange low high n ≡ true
@@ -167,7 +167,7 @@ of-lengths q lent s c = (
 )
 
 -- ---- records
-table-true : (q : Query) (i : ℕ) → badTable (q .graph .rows) (q .scans) i ≡ 0 → (getD (q .graph .rows) i 0 ≤ maxRows) × (getD (q .scans) i 0 ≤ maxScan)
+pub table-true : (q : Query) (i : ℕ) → badTable (q .graph .rows) (q .scans) i ≡ 0 → (getD (q .graph .rows) i 0 ≤ maxRows) × (getD (q .scans) i 0 ≤ maxScan)
 unfolding badTable
 table-true q i e =
     let r = getD (q .graph .rows) i 0 in
@@ -264,7 +264,7 @@ or-zero zero true e = absurd (omega arith)
 or-zero zero false e = (refl, refl)
 or-zero (suc n) b e = absurd (omega arith)
 
-edge-true : (g : Graph) (i : ℕ) → badEdge g i ≡ 0 → EdgeGood g i
+pub edge-true : (g : Graph) (i : ℕ) → badEdge g i ≡ 0 → EdgeGood g i
 unfolding badEdge repeats
 edge-true g i e = record {
   left-some = range 1 N l (and-true-l (inRange 1 N l) (inRange 1 N r) (t .0)) .0;
