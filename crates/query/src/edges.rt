@@ -8,7 +8,28 @@ ghost use Rattle.rules.specs.Sets.{has};
 ghost use Rattle.rules.specs.Query.{graphOf};
 ghost use Rattle.rules.specs.Checked.{GoodGraph};
 ghost use Rattle.rules.specs.laws.Decide.{between?};
+ghost use Rattle.query.specs.Lists.{isPair, samePair};
 use sets::has_table;
+
+// Whether `x` and `y` are `a` and `b`, in this order.
+fn is_pair(x: u64, y: u64, a: u64, b: u64) -> bool
+    ensures { λ r. ⌜ r ≡ isPair x y a b ⌝ }
+{
+    if x == a {
+        return y == b;
+    }
+    false
+}
+
+// Whether `x` and `y` are `a` and `b`, whichever way round.
+pub fn same_pair(x: u64, y: u64, a: u64, b: u64) -> bool
+    ensures { λ r. ⌜ r ≡ samePair x y a b ⌝ }
+{
+    if is_pair(x, y, a, b) {
+        return true;
+    }
+    is_pair(x, y, b, a)
+}
 
 // Whether table `a` stands in `x` and table `b` in `y`.
 pub fn both_stand(x: u64, a: u64, y: u64, b: u64) -> bool

@@ -9,30 +9,11 @@ ghost use Rattle.rules.specs.Sets.{has};
 ghost use Rattle.rules.specs.Query.{graphOf};
 ghost use Rattle.rules.specs.Checked.{GoodGraph};
 ghost use Rattle.rules.specs.Estimate.{divided, byEdges, byLower, withTable, estimate};
+use super::edges::same_pair;
 use sets::has_table;
 
 // "Then cut to 1,000,000,000,000 if larger."
 pub const MAX_ESTIMATE: u64 = 1_000_000_000_000;
-
-// Whether `a` is `u` and `b` is `t`.
-fn are(a: u64, u: u64, b: u64, t: u64) -> bool
-    ensures { λ r. ⌜ r ≡ (eqb a u && eqb b t) ⌝ }
-{
-    if a == u {
-        return b == t;
-    }
-    false
-}
-
-// Whether an edge of the tables `a` and `b` joins `u` and `t`, whichever way round it is written.
-fn joins(a: u64, b: u64, u: u64, t: u64) -> bool
-    ensures { λ r. ⌜ r ≡ ((eqb a u && eqb b t) || (eqb a t && eqb b u)) ⌝ }
-{
-    if are(a, u, b, t) {
-        return true;
-    }
-    are(a, t, b, u)
-}
 
 // At least 1: for rows, where 0 counts as 1, and for quotients.
 fn raised(n: u64) -> u64
@@ -49,7 +30,7 @@ fn by_edge(a: u64, b: u64, d: u64, u: u64, t: u64, e: u64) -> u64
     requires { ⌜ 1 ≤ d ⌝ }
     ensures { λ r. ⌜ r ≡ cond ((eqb a u && eqb b t) || (eqb a t && eqb b u)) (divided d e) e ⌝ }
 {
-    if joins(a, b, u, t) {
+    if same_pair(a, b, u, t) {
         return raised(e / d);
     }
     e

@@ -1,5 +1,6 @@
 // Refusals 1 to 12 of document 01, in its order.
 use super::connected::connected;
+use super::edges::same_pair;
 use rules::Crew;
 use rules::Edge;
 use rules::Method;
@@ -16,7 +17,7 @@ ghost use lib.ListN.{length};
 ghost use Rattle.rules.specs.Kinds.{newTable, newMethod};
 ghost use Rattle.rules.specs.Query.{graphOf};
 ghost use Rattle.rules.specs.Refusals.{firstBad, firstOf, badTable, badMethod, repeats, badEdge, badTurn, allAre, allSame, groups, checksOf};
-ghost use Rattle.query.specs.Lists.{queryOf, queryGroups, tableNumber, methodNumber, isPair, samePair, tableChecks, methodChecks, graphChecks, crewChecks, TablesGood};
+ghost use Rattle.query.specs.Lists.{queryOf, queryGroups, tableNumber, methodNumber, tableChecks, methodChecks, graphChecks, crewChecks, TablesGood};
 
 // Refusal 3 of one table, or 0.
 fn table_number(rows: u64, scan: u64) -> u64
@@ -80,26 +81,6 @@ pub fn first_bad_method(fixed: &[u64], outer: &[u64], inner: &[u64], result: &[u
         number: 0,
         place: 0,
     }
-}
-
-// Whether `x` and `y` are `a` and `b`, in this order.
-fn is_pair(x: u64, y: u64, a: u64, b: u64) -> bool
-    ensures { λ r. ⌜ r ≡ isPair x y a b ⌝ }
-{
-    if x == a {
-        return y == b;
-    }
-    false
-}
-
-// Whether `x` and `y` are `a` and `b`, whichever way round.
-fn same_pair(x: u64, y: u64, a: u64, b: u64) -> bool
-    ensures { λ r. ⌜ r ≡ samePair x y a b ⌝ }
-{
-    if is_pair(x, y, a, b) {
-        return true;
-    }
-    is_pair(x, y, b, a)
 }
 
 // Whether edge `i` joins the two tables of an earlier edge.

@@ -1,5 +1,5 @@
 -- The verdict is 0 exactly for the accepted inputs.
-use mathlib.Core.Path.{_≡_, refl}
+use mathlib.Core.Path.{_≡_, refl, ap}
 use mathlib.Core.Logic.{_⊎_, inl, inr, ⊎-elim}
 use mathlib.Core.Bool.{Bool, true, false, cond, _&&_, _||_, not}
 use mathlib.Core.List.{List, [], _∷_, _++_}
@@ -27,7 +27,7 @@ use Rattle.rules.specs.Estimate.{joinsAt}
 use Rattle.rules.specs.Rows.{memo}
 use Rattle.rules.specs.Skips.{skips}
 use Rattle.rules.specs.Refusals.{Memory, Input, refuse, firstBad, firstOf, none, allAre, allSame, memoLengths, logLengths, groups, badTable, badMethod, joinedBelow, repeats, edgeOr, badEdge, isRefused, badTurn, checksOf, checks, rooms, verdict}
-use Rattle.rules.specs.Checked.{MethodGood, EdgeGood, GoodGraph, Sound, Columns, CrewGood, Accepted}
+use Rattle.rules.specs.Checked.{MethodGood, EdgeGood, GoodGraph, Sound, Columns, CrewGood, Accepted, Checked}
 use Rattle.rules.specs.laws.Bools.{true-or-false, not-both, and-true, and-true-l, and-true-r, or-cases, or-true-l, or-true-r, yes-true, true-yes}
 use Rattle.rules.specs.laws.Decide.{connected?}
 
@@ -50,6 +50,11 @@ all-none : (vs : List Verdict) → AllNone vs → firstOf vs ≡ none
 unfolding firstOf AllNone
 all-none [] h = refl
 all-none (v ∷ vs) h = rw (eq-eqb (v .number) 0 (h .0)) (all-none vs (h .1))
+
+none-append : (xs ys : List Verdict) → AllNone (xs ++ ys) → AllNone xs × AllNone ys
+unfolding AllNone
+none-append [] ys h = (tt, h)
+none-append (v ∷ xs) ys h = let r = none-append xs ys (h .1) in ((h .0, r .0), r .1)
 
 pub none-refuse : (n : ℕ) (b : Bool) → refuse (suc n) b .number ≡ 0 → b ≡ false
 unfolding refuse
@@ -339,36 +344,32 @@ true-turn : (workers : ℕ) (turns : List ℕ) (j : ℕ) → getD turns j 0 < wo
 unfolding badTurn
 true-turn workers turns j l = none-test (ltb (getD turns j 0) workers) 12 (lt-ltb (getD turns j 0) workers l)
 
--- where no refusal is given, the input is accepted
-pub accepted : (i : Input) → verdict i .number ≡ 0 → Accepted i
-unfolding verdict checks checksOf rooms AllNone
-accepted i e = record {
-  checked = record {
-    sound = record {
-      graph = record {
-        right = lengths .0 .right;
-        divisors = lengths .0 .divisors;
-        some-table = some-tables .0;
-        few-tables = some-tables .1;
-        rows = λ j l. tables j l .0;
-        edges = λ j l. edge-true (q .graph) j (none-bad (badEdge (q .graph)) 0 (edgeCount (q .graph)) (a .1 .1 .1 .1 .1 .0) j (omega arith) (omega arith));
-      };
-      scan-list = lengths .0 .scans;
-      scans = λ j l. tables j l .1;
-      outer-list = lengths .0 .outer;
-      inner-list = lengths .0 .inner;
-      result-list = lengths .0 .result;
-      some-method = some-methods .0;
-      few-methods = some-methods .1;
-      methods = λ j l. method-true q j (none-bad (badMethod (q .fixed) (q .perOuter) (q .perInner) (q .perResult)) 0 (methodCount q) (a .1 .1 .1 .1 .0) j (omega arith) (omega arith));
-      connected = yes-true all? (not-false (isYes all?) (none-refuse 9 (not (isYes all?)) (a .1 .1 .1 .1 .1 .1 .0)));
+-- where no refusal of 1 to 12 is given, the input is checked
+pub checked : (i : Input) → firstOf (checks i) .number ≡ 0 → Checked i
+unfolding checks checksOf AllNone
+checked i e = record {
+  sound = record {
+    graph = record {
+      right = lengths .0 .right;
+      divisors = lengths .0 .divisors;
+      some-table = some-tables .0;
+      few-tables = some-tables .1;
+      rows = λ j l. tables j l .0;
+      edges = λ j l. edge-true (q .graph) j (none-bad (badEdge (q .graph)) 0 (edgeCount (q .graph)) (a .1 .1 .1 .1 .1 .0) j (omega arith) (omega arith));
     };
-    columns = lengths .1;
-    crew = crew-true (i .workers) (i .scheme) (none-refuse 10 (isRefused (newCrew (i .workers) (i .scheme))) (a .1 .1 .1 .1 .1 .1 .1 .0));
-    turns = λ j l. turn-true (i .workers) (i .turns) j (none-bad (badTurn (i .workers) (i .turns)) 0 (length (i .turns)) (a .1 .1 .1 .1 .1 .1 .1 .1 .0) j (omega arith) (omega arith));
+    scan-list = lengths .0 .scans;
+    scans = λ j l. tables j l .1;
+    outer-list = lengths .0 .outer;
+    inner-list = lengths .0 .inner;
+    result-list = lengths .0 .result;
+    some-method = some-methods .0;
+    few-methods = some-methods .1;
+    methods = λ j l. method-true q j (none-bad (badMethod (q .fixed) (q .perOuter) (q .perInner) (q .perResult)) 0 (methodCount q) (a .1 .1 .1 .1 .0) j (omega arith) (omega arith));
+    connected = yes-true all? (not-false (isYes all?) (none-refuse 9 (not (isYes all?)) (a .1 .1 .1 .1 .1 .1 .0)));
   };
-  rows = ltb-false (length (i .lent .sets)) (length (memo (q .graph))) (none-refuse 12 (ltb (length (i .lent .sets)) (length (memo (q .graph)))) (a .1 .1 .1 .1 .1 .1 .1 .1 .1 .0));
-  cells = ltb-false (length (i .lent .skips)) (length (skips (q .graph))) (none-refuse 13 (ltb (length (i .lent .skips)) (length (skips (q .graph)))) (a .1 .1 .1 .1 .1 .1 .1 .1 .1 .1 .0));
+  columns = lengths .1;
+  crew = crew-true (i .workers) (i .scheme) (none-refuse 10 (isRefused (newCrew (i .workers) (i .scheme))) (a .1 .1 .1 .1 .1 .1 .1 .0));
+  turns = λ j l. turn-true (i .workers) (i .turns) j (none-bad (badTurn (i .workers) (i .turns)) 0 (length (i .turns)) (a .1 .1 .1 .1 .1 .1 .1 .1 .0) j (omega arith) (omega arith));
 }
   where
     q : Query
@@ -377,8 +378,8 @@ accepted i e = record {
     all? : Dec (Connected (q .graph) (full (tableCount (q .graph))))
     all? = connected? (q .graph) (full (tableCount (q .graph)))
 
-    a : AllNone (checks i ++ rooms i)
-    a = none-all (checks i ++ rooms i) e
+    a : AllNone (checks i)
+    a = none-all (checks i) e
 
     lengths : SameLengths q × Columns (i .lent)
     lengths = lengths-of q (i .lent) (same-true (groups q (memoLengths (i .lent)) (logLengths (i .lent))) (not-false (allSame (groups q (memoLengths (i .lent)) (logLengths (i .lent)))) (none-refuse 0 (not (allSame (groups q (memoLengths (i .lent)) (logLengths (i .lent))))) (a .0))))
@@ -391,6 +392,24 @@ accepted i e = record {
 
     some-methods : (1 ≤ methodCount q) × (methodCount q ≤ maxMethods)
     some-methods = range 1 maxMethods (methodCount q) (not-false (methodsFit (methodCount q)) (none-refuse 3 (not (methodsFit (methodCount q))) (a .1 .1 .1 .0)))
+
+-- where no refusal is given, the input is accepted
+pub accepted : (i : Input) → verdict i .number ≡ 0 → Accepted i
+unfolding verdict rooms AllNone
+accepted i e = record {
+  checked = checked i (ap (λ (v : Verdict). v .number) (all-none (checks i) (parts .0)));
+  rows = ltb-false (length (i .lent .sets)) rowCount (none-refuse 12 (ltb (length (i .lent .sets)) rowCount) (parts .1 .0));
+  cells = ltb-false (length (i .lent .skips)) cellCount (none-refuse 13 (ltb (length (i .lent .skips)) cellCount) (parts .1 .1 .0));
+}
+  where
+    rowCount : ℕ
+    rowCount = length (memo (i .query .graph))
+
+    cellCount : ℕ
+    cellCount = length (skips (i .query .graph))
+
+    parts : AllNone (checks i) × AllNone (rooms i)
+    parts = none-append (checks i) (rooms i) (none-all (checks i ++ rooms i) e)
 
 -- and the other way round: A PLAN IS GIVEN EXACTLY FOR THE ACCEPTED INPUTS
 pub accepted-none : (i : Input) → Accepted i → verdict i ≡ none

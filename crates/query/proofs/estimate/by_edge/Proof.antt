@@ -4,8 +4,8 @@ use Rattle.query.specs.EstimateLaws.{cond-yes, cond-no}
 use Rattle.query.proofs.estimate.by_edge.Statement.{statement}
 use Rattle.query.proofs.estimate.by_edge.Tie as tie
 
-joins-requires : tie.Need-joins-requires
-joins-requires c κs = search needs
+same-pair-requires : tie.Need-same-pair-requires
+same-pair-requires c κs = search needs
 
 div-raised : tie.Need-div-raised
 div-raised c = search needs
@@ -15,10 +15,10 @@ raised-requires c κs = search needs
 
 returns : tie.Need-returns
 unfolding divided
-returns c = cond-yes _ (c .before .before .before .args .e) (c .before .before .joins .ensures) (c .before .if1 .taken) (c .raised .ensures)
+returns c = cond-yes _ (c .before .before .before .args .e) (c .before .before .same-pair .ensures) (c .before .if1 .taken) (c .raised .ensures)
 
 returns-2 : tie.Need-returns-2
-returns-2 c = let a = c .before .before .args in cond-no _ (divided (a .d) (a .e)) _ (c .before .joins .ensures) (c .if1 .left)
+returns-2 c = let a = c .before .before .args in cond-no _ (divided (a .d) (a .e)) _ (c .before .same-pair .ensures) (c .if1 .left)
 
 pub by-edge-spec : {M : Type 1} → statement M
-by-edge-spec = tie.close (tie.spec joins-requires div-raised raised-requires returns returns-2)
+by-edge-spec = tie.close (tie.spec same-pair-requires div-raised raised-requires returns returns-2)

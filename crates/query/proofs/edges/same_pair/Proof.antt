@@ -1,7 +1,7 @@
 use mathlib.Core.Path.{sym, _∙_}
 use borrow.Author.Needs.{needs}
-use Rattle.query.proofs.refusals.same_pair.Statement.{statement}
-use Rattle.query.proofs.refusals.same_pair.Tie as tie
+use Rattle.query.proofs.edges.same_pair.Statement.{statement}
+use Rattle.query.proofs.edges.same_pair.Tie as tie
 
 is-pair-requires : tie.Need-is-pair-requires
 is-pair-requires c κs = search needs

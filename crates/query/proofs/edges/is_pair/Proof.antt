@@ -1,6 +1,6 @@
 use borrow.Author.Tests.{eq-eqb, ne-eqb}
-use Rattle.query.proofs.refusals.is_pair.Statement.{statement}
-use Rattle.query.proofs.refusals.is_pair.Tie as tie
+use Rattle.query.proofs.edges.is_pair.Statement.{statement}
+use Rattle.query.proofs.edges.is_pair.Tie as tie
 
 returns : tie.Need-returns
 returns c = rw (eq-eqb _ _ (c .if1 .taken))
