@@ -15,7 +15,7 @@ use Rattle.rules.specs.Connected.{Connected}
 use Rattle.rules.specs.Checked.{GoodGraph, EdgeGood}
 use Rattle.rules.specs.laws.Bools.{true-or-false, not-both, and-true-l, and-true-r, true-yes, any}
 use Rattle.rules.specs.laws.Sets.{splits-inner, splits-outer, holds-minus, holds-single, holds-lt, lt-of-holds, holds-pos}
-use Rattle.rules.specs.laws.Connected.{connected-join, connected-single, flood-done}
+use Rattle.rules.specs.laws.Connected.{connected-join, connected-single, flood-done, Within, within-left, within-same, within-on}
 use Rattle.rules.specs.laws.Decide.{crossesIn, betweenIn, between-of, connected?}
 use Rattle.query.specs.EdgeLaws.{any-start, any-more}
 
@@ -24,10 +24,11 @@ pub record Part (g : Graph) (s f : ℕ) : Type 0 where
   pub connected : Connected g f
   pub splits : Splits s f (s - f)
 
--- r is f or grew from it, and it is f only where the test, whether an edge leads on, says no
+-- r is f or grew from it, no table of f left, and it is f only where the test, whether an edge leads on, says no
 pub record Grown (g : Graph) (s f : ℕ) (onward : Bool) (r : ℕ) : Type 0 where
   pub part : Part g s r
   pub more : f ≤ r
+  pub keeps : Within f r
   pub still : r ≡ f → onward ≡ false
 
 -- f and the far table of an edge of a and b, where it leads from f to the rest of s
@@ -57,21 +58,22 @@ module _ (g : Graph) (s f : ℕ) (p : Part g s f) where
   pub part-le : f ≤ s
   part-le = omega (arith, p .splits .whole)
 
+  -- the far table of an edge that leads on is one of the rest
+  out : (u v : ℕ) → (has f u && has (s - f) v) ≡ true → Splits (s - f) (single v) (s - f - single v)
+  out u v h = holds-minus (s - f) v (eqb-true (holds (s - f) v) 1 (and-true-r (has f u) (has (s - f) v) h))
+
   -- a table of the rest that an edge joins to the part
   part-join : (u v : ℕ) → IsTable g v → Linked g u v → (has f u && has (s - f) v) ≡ true → Part g s (f + single v)
   part-join u v tab l h = record {
-    connected = connected-join (p .connected) (connected-single g v tab) (splits-inner (p .splits) out) (record { from = u; to = v; from-in = eqb-true (holds f u) 1 (and-true-l (has f u) (has (s - f) v) h); to-in = holds-single v (tab .from-one); linked = l });
-    splits = rw e at (splits-outer (p .splits) out);
+    connected = connected-join (p .connected) (connected-single g v tab) (splits-inner (p .splits) (out u v h)) (record { from = u; to = v; from-in = eqb-true (holds f u) 1 (and-true-l (has f u) (has (s - f) v) h); to-in = holds-single v (tab .from-one); linked = l });
+    splits = rw e at (splits-outer (p .splits) (out u v h));
   }
     where
-      out : Splits (s - f) (single v) (s - f - single v)
-      out = holds-minus (s - f) v (eqb-true (holds (s - f) v) 1 (and-true-r (has f u) (has (s - f) v) h))
-
       e : s - f - single v ≡ s - (f + single v)
       e = omega arith
 
   grown-join : (onward : Bool) (u v : ℕ) → IsTable g v → Linked g u v → (has f u && has (s - f) v) ≡ true → Grown g s f onward (f + single v)
-  grown-join onward u v tab l h = record { part = part-join u v tab l h; more = omega arith; still = λ e. absurd (omega (arith, holds-pos (single v) v (holds-single v (tab .from-one)))) }
+  grown-join onward u v tab l h = record { part = part-join u v tab l h; more = omega arith; keeps = within-left (splits-inner (p .splits) (out u v h)); still = λ e. absurd (omega (arith, holds-pos (single v) v (holds-single v (tab .from-one)))) }
 
   -- the part after edge i
   pub grown-edge : GoodGraph g → (i : ℕ) → i < edgeCount g → Grown g s f (crossesIn (g .left) (g .right) f (s - f) i) (grow s f (getD (g .left) i 0) (getD (g .right) i 0))
@@ -93,18 +95,19 @@ module _ (g : Graph) (s f : ℕ) (p : Part g s f) where
       go : ((has f a && has (s - f) b) ≡ true) ⊎ ((has f a && has (s - f) b) ≡ false) → ((has f b && has (s - f) a) ≡ true) ⊎ ((has f b && has (s - f) a) ≡ false) → Grown g s f onward (grow s f a b)
       go (inl h) y = rw (grow-right s f a b h) (grown-join onward a b (record { from-one = edge .right-some; to-count = edge .right-known }) (record { edge = i; known = l; joins = inl (refl, refl) }) h)
       go (inr n) (inl h) = rw (grow-left s f a b n h) (grown-join onward b a (record { from-one = edge .left-some; to-count = edge .left-known }) (record { edge = i; known = l; joins = inr (refl, refl) }) h)
-      go (inr n) (inr m) = rw (grow-not s f a b n m) (record { part = p; more = omega arith; still = λ e. rw (n, m) })
+      go (inr n) (inr m) = rw (grow-not s f a b n m) (record { part = p; more = omega arith; keeps = within-same f; still = λ e. rw (n, m) })
 
 -- ---- one pass over the edges: f as it was, p as it is now
 module _ (g : Graph) (s f : ℕ) where
   pub grown-start : Part g s f → Grown g s f (any (crossesIn (g .left) (g .right) f (s - f)) 0) f
-  grown-start p = record { part = p; more = omega arith; still = λ e. any-start (crossesIn (g .left) (g .right) f (s - f)) }
+  grown-start p = record { part = p; more = omega arith; keeps = within-same f; still = λ e. any-start (crossesIn (g .left) (g .right) f (s - f)) }
 
   pub grown-more : GoodGraph g → (i p : ℕ) → i < edgeCount g → Grown g s f (any (crossesIn (g .left) (g .right) f (s - f)) i) p
       → Grown g s f (any (crossesIn (g .left) (g .right) f (s - f)) (i + 1)) (grow s p (getD (g .left) i 0) (getD (g .right) i 0))
   grown-more good i p l h = record {
     part = d .part;
     more = omega (arith, h .more, d .more);
+    keeps = within-on f p (grow s p (getD (g .left) i 0) (getD (g .right) i 0)) (h .keeps) (d .keeps);
     still = λ e. let same : p ≡ f = omega (arith, h .more, d .more) in any-more (crossesIn (g .left) (g .right) f (s - f)) i (h .still same) (rw same at (d .still (e ∙ sym same)));
   }
     where

@@ -24,6 +24,14 @@ joinable-sym {g} {X} {Y} j = record { apart = disjoint-sym X Y (j .apart); betwe
 unfoldable pub Within : ℕ → ℕ → Type 0
 Within X S = (t : ℕ) → holds X t ≡ 1 → holds S t ≡ 1
 
+pub within-same : (f : ℕ) → Within f f
+unfolding Within
+within-same f t h = h
+
+pub within-on : (f p r : ℕ) → Within f p → Within p r → Within f r
+unfolding Within
+within-on f p r v w t h = w t (v t h)
+
 walk-within : {g : Graph} {X S a b : ℕ} → Within X S → Walk g X a b → Walk g S a b
 unfolding Within
 walk-within w (here e h) = here e (w _ h)
