@@ -22,7 +22,7 @@ use Rattle.rules.specs.Refusals.{none, firstBad, firstOf, allAre, allSame, grou
 use Rattle.rules.specs.laws.Bools.{true-or-false, and-true-l, and-true-r, or-true-l, or-true-r}
 use Rattle.sets.specs.Laws.{shifted-one}
 use Rattle.query.specs.Lists.{queryGroups, tableNumber, methodNumber, samePair, tableChecks, methodChecks, graphChecks, crewChecks, TablesGood}
-use Rattle.rules.specs.laws.Refusals.{none-refuse, none-bad, range, table-true, edge-true, bad-step, bad-here, bad-end, SameLengths}
+use Rattle.rules.specs.laws.Refusals.{lengths-of, same-true, none-refuse, none-bad, range, table-true, edge-true, bad-step, bad-here, bad-end, SameLengths}
 use Rattle.rules.specs.laws.Decide.{connected?}
 use Rattle.rules.specs.declared.Verdict.{Verdict}
 use Rattle.rules.specs.declared.Table.{Table}
@@ -302,34 +302,8 @@ module _ (g : Graph) (edges : Verdict) (is-edges : edges ≡ firstBad (badEdge g
   }
 
 -- ---- all of them: what the code knows where it returns
-are-first : (n k : ℕ) (ks : List ℕ) → allAre n (k ∷ ks) ≡ true → (k ≡ n) × (allAre n ks ≡ true)
-unfolding allAre
-are-first n k ks h = (eqb-true k n (and-true-l (eqb k n) (allAre n ks) h), and-true-r (eqb k n) (allAre n ks) h)
-
-same-first : (n : ℕ) (ks : List ℕ) (gs : List (List ℕ)) → allSame ((n ∷ ks) ∷ gs) ≡ true → (allAre n ks ≡ true) × (allSame gs ≡ true)
-unfolding allSame
-same-first n ks gs h = (and-true-l (allAre n ks) (allSame gs) h, and-true-r (allAre n ks) (allSame gs) h)
-
-lengths-same : (q : Query) (memo log : List ℕ) → allSame (groups q memo log) ≡ true → SameLengths q
-unfolding groups
-lengths-same q memo log h =
-    let t = same-first (tableCount (q .graph)) (length (q .scans) ∷ []) _ h in
-    let e = same-first (edgeCount (q .graph)) (length (q .graph .right) ∷ length (q .graph .divisors) ∷ []) _ (t .1) in
-    let m = same-first (methodCount q) (length (q .perOuter) ∷ length (q .perInner) ∷ length (q .perResult) ∷ []) (memo ∷ log ∷ []) (e .1) in
-    let d = are-first (edgeCount (q .graph)) (length (q .graph .right)) (length (q .graph .divisors) ∷ []) (e .0) in
-    let o = are-first (methodCount q) (length (q .perOuter)) (length (q .perInner) ∷ length (q .perResult) ∷ []) (m .0) in
-    let i = are-first (methodCount q) (length (q .perInner)) (length (q .perResult) ∷ []) (o .1) in
-    record {
-      scans = are-first (tableCount (q .graph)) (length (q .scans)) [] (t .0) .0;
-      right = d .0;
-      divisors = are-first (edgeCount (q .graph)) (length (q .graph .divisors)) [] (d .1) .0;
-      outer = o .0;
-      inner = i .0;
-      result = are-first (methodCount q) (length (q .perResult)) [] (i .1) .0;
-    }
-
 pub same-query : (q : Query) (memo log : List ℕ) (fit : Bool) → fit ≡ allSame (groups q memo log) → not fit ≡ false → SameLengths q
-same-query q memo log fit e h = lengths-same q memo log (sym e ∙ not-false fit h)
+same-query q memo log fit e h = lengths-of q memo log (same-true (groups q memo log) (sym e ∙ not-false fit h))
 
 module _ (q : Query) (same : SameLengths q) (tables : Verdict) (is-tables : tables ≡ firstOf (tableChecks (q .graph .rows) (q .scans))) where
   pub tables-good : tables .number ≡ 0 → TablesGood (q .graph)

@@ -132,7 +132,7 @@ unfolding allAre AllAre
 true-are n [] h = refl
 true-are n (k ∷ ks) h = and-true (eqb k n) (allAre n ks) (eq-eqb k n (h .0)) (true-are n ks (h .1))
 
-same-true : (gs : List (List ℕ)) → allSame gs ≡ true → AllSame gs
+pub same-true : (gs : List (List ℕ)) → allSame gs ≡ true → AllSame gs
 unfolding allSame AllSame
 same-true [] e = tt
 same-true ([] ∷ gs) e = same-true gs e
@@ -153,16 +153,19 @@ pub record SameLengths (q : Query) : Type 0 where
   pub inner : length (q .perInner) ≡ methodCount q
   pub result : length (q .perResult) ≡ methodCount q
 
-lengths-of : (q : Query) (lent : Memory) → AllSame (groups q (memoLengths lent) (logLengths lent)) → SameLengths q × Columns lent
+pub lengths-of : (q : Query) (memoColumns logColumns : List ℕ) → AllSame (groups q memoColumns logColumns) → SameLengths q
 unfolding AllSame AllAre groups
-lengths-of q lent h =
+lengths-of q memoColumns logColumns h =
     let e = h .1 .0 in
     let m = h .1 .1 .0 in
+    record { scans = h .0 .0; right = e .0; divisors = e .1 .0; outer = m .0; inner = m .1 .0; result = m .1 .1 .0 }
+
+columns-of : (q : Query) (lent : Memory) → AllSame (groups q (memoLengths lent) (logLengths lent)) → Columns lent
+unfolding AllSame AllAre groups
+columns-of q lent h =
     let c = h .1 .1 .1 .0 in
-    let l = h .1 .1 .1 .1 .0 in (
-      record { scans = h .0 .0; right = e .0; divisors = e .1 .0; outer = m .0; inner = m .1 .0; result = m .1 .1 .0 },
-      record { estimates = c .0; costs = c .1 .0; outers = c .1 .1 .0; methods = c .1 .1 .1 .0; driving = l .0; inner = l .1 .0; log-costs = l .1 .1 .0 },
-    )
+    let l = h .1 .1 .1 .1 .0 in
+    record { estimates = c .0; costs = c .1 .0; outers = c .1 .1 .0; methods = c .1 .1 .1 .0; driving = l .0; inner = l .1 .0; log-costs = l .1 .1 .0 }
 
 of-lengths : (q : Query) (lent : Memory) → SameLengths q → Columns lent → AllSame (groups q (memoLengths lent) (logLengths lent))
 unfolding AllSame AllAre groups
@@ -344,54 +347,72 @@ true-turn : (workers : ℕ) (turns : List ℕ) (j : ℕ) → getD turns j 0 < wo
 unfolding badTurn
 true-turn workers turns j l = none-test (ltb (getD turns j 0) workers) 12 (lt-ltb (getD turns j 0) workers l)
 
--- where no refusal of 1 to 12 is given, the input is checked
-pub checked : (i : Input) → firstOf (checks i) .number ≡ 0 → Checked i
-unfolding checks checksOf AllNone
-checked i e = record {
-  sound = record {
+-- where no refusal of 1 to 12 is given, the query is sound, whatever the lengths of the lent columns
+module _ (q : Query) (workers scheme : ℕ) (turns memoColumns logColumns : List ℕ) (e : firstOf (checksOf q workers scheme turns memoColumns logColumns) .number ≡ 0) where
+  passed : AllNone (checksOf q workers scheme turns memoColumns logColumns)
+  passed = none-all (checksOf q workers scheme turns memoColumns logColumns) e
+
+  same-groups : AllSame (groups q memoColumns logColumns)
+  unfolding checksOf AllNone
+  same-groups = same-true (groups q memoColumns logColumns) (not-false (allSame (groups q memoColumns logColumns)) (none-refuse 0 (not (allSame (groups q memoColumns logColumns))) (passed .0)))
+
+  pub sound-of : Sound q
+  unfolding checksOf AllNone
+  sound-of = record {
     graph = record {
-      right = lengths .0 .right;
-      divisors = lengths .0 .divisors;
+      right = lengths .right;
+      divisors = lengths .divisors;
       some-table = some-tables .0;
       few-tables = some-tables .1;
       rows = λ j l. tables j l .0;
-      edges = λ j l. edge-true (q .graph) j (none-bad (badEdge (q .graph)) 0 (edgeCount (q .graph)) (a .1 .1 .1 .1 .1 .0) j (omega arith) (omega arith));
+      edges = λ j l. edge-true (q .graph) j (none-bad (badEdge (q .graph)) 0 (edgeCount (q .graph)) (passed .1 .1 .1 .1 .1 .0) j (omega arith) (omega arith));
     };
-    scan-list = lengths .0 .scans;
+    scan-list = lengths .scans;
     scans = λ j l. tables j l .1;
-    outer-list = lengths .0 .outer;
-    inner-list = lengths .0 .inner;
-    result-list = lengths .0 .result;
+    outer-list = lengths .outer;
+    inner-list = lengths .inner;
+    result-list = lengths .result;
     some-method = some-methods .0;
     few-methods = some-methods .1;
-    methods = λ j l. method-true q j (none-bad (badMethod (q .fixed) (q .perOuter) (q .perInner) (q .perResult)) 0 (methodCount q) (a .1 .1 .1 .1 .0) j (omega arith) (omega arith));
-    connected = yes-true all? (not-false (isYes all?) (none-refuse 9 (not (isYes all?)) (a .1 .1 .1 .1 .1 .1 .0)));
-  };
-  columns = lengths .1;
-  crew = crew-true (i .workers) (i .scheme) (none-refuse 10 (isRefused (newCrew (i .workers) (i .scheme))) (a .1 .1 .1 .1 .1 .1 .1 .0));
-  turns = λ j l. turn-true (i .workers) (i .turns) j (none-bad (badTurn (i .workers) (i .turns)) 0 (length (i .turns)) (a .1 .1 .1 .1 .1 .1 .1 .1 .0) j (omega arith) (omega arith));
-}
-  where
-    q : Query
-    q = i .query
+    methods = λ j l. method-true q j (none-bad (badMethod (q .fixed) (q .perOuter) (q .perInner) (q .perResult)) 0 (methodCount q) (passed .1 .1 .1 .1 .0) j (omega arith) (omega arith));
+    connected = yes-true all? (not-false (isYes all?) (none-refuse 9 (not (isYes all?)) (passed .1 .1 .1 .1 .1 .1 .0)));
+  }
+    where
+      all? : Dec (Connected (q .graph) (full (tableCount (q .graph))))
+      all? = connected? (q .graph) (full (tableCount (q .graph)))
 
-    all? : Dec (Connected (q .graph) (full (tableCount (q .graph))))
-    all? = connected? (q .graph) (full (tableCount (q .graph)))
+      lengths : SameLengths q
+      lengths = lengths-of q memoColumns logColumns same-groups
 
-    a : AllNone (checks i)
-    a = none-all (checks i) e
+      tables : (j : ℕ) → j < tableCount (q .graph) → (getD (q .graph .rows) j 0 ≤ maxRows) × (getD (q .scans) j 0 ≤ maxScan)
+      tables j l = table-true q j (none-bad (badTable (q .graph .rows) (q .scans)) 0 (tableCount (q .graph)) (passed .1 .1 .0) j (omega arith) (omega arith))
 
-    lengths : SameLengths q × Columns (i .lent)
-    lengths = lengths-of q (i .lent) (same-true (groups q (memoLengths (i .lent)) (logLengths (i .lent))) (not-false (allSame (groups q (memoLengths (i .lent)) (logLengths (i .lent)))) (none-refuse 0 (not (allSame (groups q (memoLengths (i .lent)) (logLengths (i .lent))))) (a .0))))
+      some-tables : (1 ≤ tableCount (q .graph)) × (tableCount (q .graph) ≤ maxTables)
+      some-tables = range 1 maxTables (tableCount (q .graph)) (not-false (tablesFit (tableCount (q .graph))) (none-refuse 1 (not (tablesFit (tableCount (q .graph)))) (passed .1 .0)))
 
-    tables : (j : ℕ) → j < tableCount (q .graph) → (getD (q .graph .rows) j 0 ≤ maxRows) × (getD (q .scans) j 0 ≤ maxScan)
-    tables j l = table-true q j (none-bad (badTable (q .graph .rows) (q .scans)) 0 (tableCount (q .graph)) (a .1 .1 .0) j (omega arith) (omega arith))
+      some-methods : (1 ≤ methodCount q) × (methodCount q ≤ maxMethods)
+      some-methods = range 1 maxMethods (methodCount q) (not-false (methodsFit (methodCount q)) (none-refuse 3 (not (methodsFit (methodCount q))) (passed .1 .1 .1 .0)))
 
-    some-tables : (1 ≤ tableCount (q .graph)) × (tableCount (q .graph) ≤ maxTables)
-    some-tables = range 1 maxTables (tableCount (q .graph)) (not-false (tablesFit (tableCount (q .graph))) (none-refuse 1 (not (tablesFit (tableCount (q .graph)))) (a .1 .0)))
+  pub crew-of : CrewGood workers scheme
+  unfolding checksOf AllNone
+  crew-of = crew-true workers scheme (none-refuse 10 (isRefused (newCrew workers scheme)) (passed .1 .1 .1 .1 .1 .1 .1 .0))
 
-    some-methods : (1 ≤ methodCount q) × (methodCount q ≤ maxMethods)
-    some-methods = range 1 maxMethods (methodCount q) (not-false (methodsFit (methodCount q)) (none-refuse 3 (not (methodsFit (methodCount q))) (a .1 .1 .1 .0)))
+  pub turns-of : (j : ℕ) → j < length turns → getD turns j 0 < workers
+  unfolding checksOf AllNone
+  turns-of j l = turn-true workers turns j (none-bad (badTurn workers turns) 0 (length turns) (passed .1 .1 .1 .1 .1 .1 .1 .1 .0) j (omega arith) (omega arith))
+
+-- and the input is checked
+pub checked : (i : Input) → firstOf (checks i) .number ≡ 0 → Checked i
+unfolding checks
+checked i e =
+    let memoColumns = memoLengths (i .lent) in
+    let logColumns = logLengths (i .lent) in
+    record {
+      sound = sound-of (i .query) (i .workers) (i .scheme) (i .turns) memoColumns logColumns e;
+      columns = columns-of (i .query) (i .lent) (same-groups (i .query) (i .workers) (i .scheme) (i .turns) memoColumns logColumns e);
+      crew = crew-of (i .query) (i .workers) (i .scheme) (i .turns) memoColumns logColumns e;
+      turns = turns-of (i .query) (i .workers) (i .scheme) (i .turns) memoColumns logColumns e;
+    }
 
 -- where no refusal is given, the input is accepted
 pub accepted : (i : Input) → verdict i .number ≡ 0 → Accepted i
