@@ -1,3 +1,9 @@
--- How the memo's rows are walked, and the laws that the proofs cite.
+-- How the memo's rows are walked, what laying out and finding mean, and the laws that the proofs cite.
 pub mod Walk
 pub mod WalkLaws
+pub mod SizeRows
+pub mod Vectors
+pub mod FindLaws
+pub mod VectorLaws
+pub mod Layout
+pub mod ColumnLaws

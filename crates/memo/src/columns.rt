@@ -1,0 +1,56 @@
+// The memo's columns beside its sets: estimates, cells that the search will fill, where the rows of each size begin.
+ghost use mathlib.Core.Path.{_≡_};
+ghost use mathlib.Core.List.{map};
+ghost use Prim.Native.Nat.{_+_, _≤_};
+ghost use lib.ListN.{length, take, replicate};
+ghost use Rattle.rules.specs.Query.{graphOf};
+ghost use Rattle.rules.specs.Checked.{GoodGraph};
+ghost use Rattle.rules.specs.Estimate.{estimate};
+ghost use Rattle.memo.specs.Vectors.{written};
+ghost use Rattle.memo.specs.Layout.{starts};
+use super::rows::count_size;
+use query::estimate::estimate;
+
+// Writes the estimates of the first `count` sets.
+pub fn lay_estimates(
+    rows: &[u64],
+    left: &[u64],
+    right: &[u64],
+    divisors: &[u64],
+    sets: &[u64],
+    count: usize,
+    out: &mut [u64],
+)
+    requires { ⌜ GoodGraph (graphOf (now rows) (now left) (now right) (now divisors)) ⌝ }
+    requires { ⌜ (count ≤ length (now sets)) × (count ≤ length (now out)) ⌝ }
+    ensures { λ _. ⌜ now (out .exit) ≡ written (now (out .entry)) 0 (map (estimate (graphOf (now (rows .entry)) (now (left .entry)) (now (right .entry)) (now (divisors .entry)))) (take count (now (sets .entry)))) ⌝ }
+{
+    for i in 0..count {
+        out[i] = estimate(rows, left, right, divisors, sets[i]);
+    }
+}
+
+// Clears the first `count` cells.
+pub fn lay_zeros(count: usize, out: &mut [u64])
+    requires { ⌜ count ≤ length (now out) ⌝ }
+    ensures { λ _. ⌜ now (out .exit) ≡ written (now (out .entry)) 0 (replicate count 0) ⌝ }
+{
+    for i in 0..count {
+        out[i] = 0;
+    }
+}
+
+// Writes where the rows of each size begin: into cell k, how many rows have sizes below k.
+pub fn lay_starts(rows: &[u64], left: &[u64], right: &[u64], divisors: &[u64], out: &mut [u64])
+    requires { ⌜ GoodGraph (graphOf (now rows) (now left) (now right) (now divisors)) ⌝ }
+    requires { ⌜ length (now rows) + 2 ≤ length (now out) ⌝ }
+    ensures { λ _. ⌜ now (out .exit) ≡ written (now (out .entry)) 0 (starts (graphOf (now (rows .entry)) (now (left .entry)) (now (right .entry)) (now (divisors .entry)))) ⌝ }
+{
+    let mut count = 0;
+    for k in 0..rows.len() {
+        out[k + 1] = count;
+        count += count_size(rows, left, right, divisors, k as u64 + 1) as u64;
+    }
+    out[rows.len() + 1] = count;
+    out[0] = 0;
+}
