@@ -5,18 +5,22 @@ use Prim.Native.Nat.{ℕ, zero, suc, _+_, _-_, _≤_, _<_}
 use native.Mathlib.Omega.{arith}
 use native.Mathlib.Numerals.{add-one}
 use lib.ListN.{length, getD, set, take, length-append, length-take, replicate, length-replicate, replicate-append-replicate}
-use lib.Seq.{take-suc}
+use lib.Seq.{take-suc, set-comm}
 use Rattle.rules.specs.Query.{Graph, tableCount}
 use Rattle.rules.specs.laws.Lists.{length-map}
 use Rattle.memo.specs.Walk.{upTo}
 use Rattle.memo.specs.Vectors.{written}
-use Rattle.memo.specs.VectorLaws.{written-ahead}
 use Rattle.memo.specs.Layout.{startsTo, starts}
 
 -- one more store after a run of stores
 pub written-push : (d : List ℕ) (at i : ℕ) (p : List ℕ) (v : ℕ) → at + length p ≡ i → set (written d at p) i v ≡ written d at (p ++ v ∷ [])
 written-push d at i [] v e = let f : i ≡ at = omega arith in ap (λ (k : ℕ). set d k v) f
 written-push d at i (x ∷ p) v e = written-push (set d at x) (suc at) i p v (omega arith)
+
+-- a store ahead of a run of stores may come first
+store-ahead : (d : List ℕ) (i j v : ℕ) (p : List ℕ) → j < i → set (written d i p) j v ≡ written (set d j v) i p
+store-ahead d i j v [] h = refl
+store-ahead d i j v (x ∷ p) h = store-ahead (set d i x) (suc i) j v p (omega arith) ∙ ap (λ (l : List ℕ). written l (suc i) p) (set-comm d i j x v (λ e. omega arith))
 
 -- a column of f: one more row, where v is its value
 pub column-more : (f : ℕ → ℕ) (s d : List ℕ) (i : ℕ) {l : List ℕ} {v : ℕ} → i < length s → l ≡ written d 0 (map f (take i s)) → v ≡ f (getD s i 0)
@@ -52,4 +56,4 @@ module _ (g : Graph) where
   -- the last number, and the first cell
   pub starts-end : (d : List ℕ) (k : ℕ) {l : List ℕ} {v : ℕ} → k ≡ tableCount g → l ≡ written d 1 (startsTo g k) → v ≡ length (upTo g k) → set (set l (tableCount g + 1) v) 0 0 ≡ written d 0 (starts g)
   starts-end d k {l} {v} e o w =
-      rw (starts-more d (tableCount g) (rw e at o) (rw e at w)) (written-ahead d 0 1 (0 ∷ []) (startsTo g (tableCount g + 1)) (omega arith))
+      rw (starts-more d (tableCount g) (rw e at o) (rw e at w)) (store-ahead d 1 0 0 (startsTo g (tableCount g + 1)) (omega arith))

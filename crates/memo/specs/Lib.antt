@@ -7,3 +7,4 @@ pub mod FindLaws
 pub mod VectorLaws
 pub mod Layout
 pub mod ColumnLaws
+pub mod LayoutLaws

@@ -49,7 +49,7 @@ store-first l i b v (w ∷ vs) h =
     store-first (set l b w) i (suc b) v vs (omega arith) ∙ ap (λ (x : List ℕ). sets x (suc b) vs) (set-comm l b i w v (λ e. omega arith))
 
 -- a run written ahead of another makes one run
-pub written-ahead : (l : List ℕ) (i b : ℕ) (vs ws : List ℕ) → i + length vs ≡ b → sets (sets l b ws) i vs ≡ sets l i (vs ++ ws)
+written-ahead : (l : List ℕ) (i b : ℕ) (vs ws : List ℕ) → i + length vs ≡ b → sets (sets l b ws) i vs ≡ sets l i (vs ++ ws)
 written-ahead l i b [] ws e = let f : b ≡ i = omega arith in rw f
 written-ahead l i b (v ∷ vs) ws e =
     ap (λ (x : List ℕ). sets x (suc i) vs) (store-first l i b v ws (omega arith)) ∙ written-ahead (set l i v) (suc i) b vs ws (omega arith)

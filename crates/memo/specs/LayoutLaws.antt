@@ -1,0 +1,160 @@
+-- Laws of laying out: the rows of one size in a list of all rows, their skip cells after those of the smaller sizes, the columns, the one outcome.
+use mathlib.Core.Path.{_≡_, refl, sym, ap, ap₂, _∙_}
+use mathlib.Core.List.{List, [], _∷_, _++_, map, append-assoc, append-nil}
+use Prim.Native.Nat.{ℕ, zero, suc, _+_, _-_, _*_, _≤_, _<_}
+use native.Mathlib.Nat.{zero-add}
+use native.Mathlib.Decide.{decLt}
+use native.Mathlib.Omega.{arith}
+use lib.ListN.{length, take, drop, length-append, length-take, replicate}
+use lib.Seq.{slice, take-take, take-at, drop-at, sets-eq, length-sets}
+use Rattle.rules.specs.Limits.{maxTables}
+use Rattle.rules.specs.Lists.{inRow, over}
+use Rattle.rules.specs.Query.{Graph, tableCount}
+use Rattle.rules.specs.Estimate.{estimate}
+use Rattle.rules.specs.Rows.{rowsOf, memo}
+use Rattle.rules.specs.Skips.{vectorsFrom, vectors, skips}
+use Rattle.memo.specs.Walk.{upTo}
+use Rattle.memo.specs.WalkLaws.{wrote-both, upTo-more, length-more}
+use Rattle.memo.specs.SizeRows.{SizeRows}
+use Rattle.memo.specs.Vectors.{written}
+use Rattle.memo.specs.FindLaws.{rows-sized}
+use Rattle.memo.specs.VectorLaws.{vectors-of, vectors-cells}
+use Rattle.memo.specs.declared.layout.Laid.{Laid}
+use Rattle.memo.specs.Layout.{cellsTo, Lent, lent, Room, laid, refused, answered, counts, LaidOut}
+
+-- ---- lists in a row
+row-split : {C : Type 0} (f : ℕ → List C) (k n m : ℕ) → inRow f k (n + m) ≡ inRow f k n ++ inRow f (k + n) m
+unfolding inRow
+row-split f k zero m = let e : k + 0 ≡ k = omega arith in rw (e, zero-add m)
+row-split {C = C} f k (suc n) m =
+    let d : suc n + m ≡ suc (n + m) = omega arith in
+    let e : suc k + n ≡ k + suc n = omega arith in
+    rw d (ap (λ (l : List C). f k ++ l) (row-split f (suc k) n m ∙ ap (λ (i : ℕ). inRow f (suc k) n ++ inRow f i m) e) ∙ sym (append-assoc (f k) (inRow f (suc k) n) (inRow f (k + suc n) m)))
+
+row-whole : {C : Type 0} (f : ℕ → List C) (k n : ℕ) → k ≤ n → inRow f 1 n ≡ inRow f 1 k ++ inRow f (1 + k) (n - k)
+row-whole f k n h = let e : n ≡ k + (n - k) = omega arith in ap (inRow f 1) e ∙ row-split f 1 k (n - k)
+
+-- a part of a list that begins with a + b + c
+part-at : (s whole a b c : List ℕ) {from to : ℕ} → take (length whole) s ≡ whole → whole ≡ (a ++ b) ++ c → from ≡ length a → to ≡ from + length b → slice from to s ≡ b
+part-at s whole a b c {from} {to} t w f e =
+    let n : length (a ++ b) ≡ to = omega (arith, length-append a b) in
+    let m : to ≤ length whole = omega (arith, ap length w, length-append (a ++ b) c) in
+    ap (drop from) (sym (take-take to (length whole) s m) ∙ ap (take to) (t ∙ w) ∙ take-at (a ++ b) c to n) ∙ drop-at a b from (sym f)
+
+-- ---- the skip cells of the sizes 1 to k
+module _ (g : Graph) where
+  pub cells-start : cellsTo g 0 ≡ []
+  unfolding inRow
+  cells-start = refl
+
+  pub cells-all : (k : ℕ) → k ≡ tableCount g → cellsTo g k ≡ skips g
+  unfolding skips
+  cells-all k e = ap (cellsTo g) e
+
+  cells-size : (k : ℕ) → cellsTo g (k + 1) ≡ cellsTo g k ++ vectors g (k + 1)
+  unfolding inRow
+  cells-size k =
+      let e : 1 + k ≡ k + 1 = omega arith in
+      row-split (vectors g) 1 k 1 ∙ ap (λ (l : List ℕ). cellsTo g k ++ l) (append-nil (vectors g (1 + k)) ∙ ap (vectors g) e)
+
+  cells-le : (k : ℕ) → k ≤ tableCount g → length (cellsTo g k) ≤ length (skips g)
+  unfolding skips
+  cells-le k h =
+      omega (arith, ap length (row-whole (vectors g) k (tableCount g) h), length-append (cellsTo g k) (inRow (vectors g) (1 + k) (tableCount g - k)))
+
+  memo-whole : (k : ℕ) → k ≤ tableCount g → memo g ≡ upTo g k ++ inRow (rowsOf g) (1 + k) (tableCount g - k)
+  unfolding memo
+  memo-whole k h = row-whole (rowsOf g) k (tableCount g) h
+
+-- ---- the rows of size k + 1 in a list s that begins with the memo's rows: where they begin, how many they are, where their cells begin
+module _ (g : Graph) (k from count at : ℕ) (s : List ℕ) (few : tableCount g ≤ maxTables) (l : k < tableCount g) (m : take (length (memo g)) s ≡ memo g)
+    (f : from ≡ length (upTo g k)) (c : count ≡ length (rowsOf g (k + 1))) (a : at ≡ length (cellsTo g k)) where
+  part : slice from (from + count) s ≡ rowsOf g (k + 1)
+  part =
+      let w = memo-whole g (k + 1) (omega arith) ∙ ap (λ (r : List ℕ). r ++ inRow (rowsOf g) (1 + (k + 1)) (tableCount g - (k + 1))) (upTo-more g k) in
+      part-at s (memo g) (upTo g k) (rowsOf g (k + 1)) (inRow (rowsOf g) (1 + (k + 1)) (tableCount g - (k + 1))) m w f (ap (λ (x : ℕ). from + x) c)
+
+  pub rows-next : from + count ≡ length (upTo g (k + 1))
+  rows-next = omega (arith, length-more g k)
+
+  pub rows-inside : from + count ≤ length s
+  rows-inside =
+      omega (
+        arith,
+        rows-next,
+        ap length m,
+        length-take (length (memo g)) s,
+        ap length (memo-whole g (k + 1) (omega arith)),
+        length-append (upTo g (k + 1)) (inRow (rowsOf g) (1 + (k + 1)) (tableCount g - (k + 1))),
+      )
+
+  pub cells-next-at : at + count * (k + 1) ≡ length (cellsTo g (k + 1))
+  cells-next-at =
+      omega (arith, ap (λ (x : ℕ). x * (k + 1)) c, vectors-cells g (k + 1), ap length (cells-size g k), length-append (cellsTo g k) (vectors g (k + 1)))
+
+  pub cells-inside : at + count * (k + 1) ≤ length (skips g)
+  cells-inside = omega (arith, cells-next-at, cells-le g (k + 1) (omega arith))
+
+  pub size-ready : {n : ℕ} → length (skips g) ≤ n → SizeRows s from (from + count) (k + 1) 32 × (at + (from + count - from) * (k + 1) ≤ n)
+  size-ready h =
+      let e : from + count - from ≡ count = omega arith in
+      (rows-sized g (k + 1) s from (from + count) (omega arith) rows-inside part 32 (omega arith), rw e (omega (arith, cells-inside)))
+
+  -- and their cells are written after those of the smaller sizes
+  pub wrote-size : (old : List ℕ) {mid new : List ℕ} → mid ≡ written old 0 (cellsTo g k) → new ≡ written mid at (vectorsFrom 32 1 (slice from (from + count) s)) → new ≡ written old 0 (cellsTo g (k + 1))
+  wrote-size old {mid} h n =
+      wrote-both old 0 (cellsTo g k) (vectors g (k + 1)) (a ∙ sym (zero-add (length (cellsTo g k)))) h (n ∙ ap (written mid at) (vectors-of g (k + 1) (slice from (from + count) s) (omega arith) part))
+      ∙ ap (written old 0) (sym (cells-size g k))
+
+-- ---- columns
+-- what has been written from the first cell on stands at the front
+pub written-over : (v d : List ℕ) → length v ≤ length d → written d 0 v ≡ over v d
+written-over v d h = let e : 0 + length v ≡ length v = zero-add (length v) in sets-eq v d 0 (rw e h) ∙ rw e
+
+pub front : (v d : List ℕ) {l : List ℕ} {n : ℕ} → length v ≤ length d → n ≡ length v → l ≡ written d 0 v → take n l ≡ v
+front v d {l} {n} h e w = ap (take n) (w ∙ written-over v d h) ∙ take-at v (drop (length v) d) n (sym e)
+
+pub still-long : (v d : List ℕ) {l : List ℕ} → l ≡ written d 0 v → length l ≡ length d
+still-long v d w = ap length w ∙ length-sets d 0 v
+
+pub estimates-laid : (g : Graph) (old : List ℕ) {l v : List ℕ} → v ≡ memo g → l ≡ written old 0 (map (estimate g) v) → l ≡ written old 0 (map (estimate g) (memo g))
+estimates-laid g old t w = w ∙ ap (λ (v : List ℕ). written old 0 (map (estimate g) v)) t
+
+pub zeros-laid : (g : Graph) (old : List ℕ) {l : List ℕ} {n : ℕ} → n ≡ length (memo g) → l ≡ written old 0 (replicate n 0) → l ≡ written old 0 (replicate (length (memo g)) 0)
+zeros-laid g old e w = w ∙ ap (λ (k : ℕ). written old 0 (replicate k 0)) e
+
+-- a column as long as another that has room
+pub has-room : {n m a b : ℕ} → n ≡ m → m ≤ a → b ≡ a → n ≤ b
+has-room e h f = omega arith
+
+pub lent-same : {s e c o m k s′ e′ c′ o′ m′ k′ : List ℕ} → s ≡ s′ → e ≡ e′ → c ≡ c′ → o ≡ o′ → m ≡ m′ → k ≡ k′ → lent s e c o m k ≡ lent s′ e′ c′ o′ m′ k′
+lent-same a b c d e f = rw (a, b, c, d, e, f)
+
+-- ---- the three cases
+pub counted : (g : Graph) (n m : ℕ) → n ≡ length (memo g) → m ≡ length (skips g) → answered n m ≡ counts g
+counted g n m e f = rw (e, f)
+
+module _ (g : Graph) (old : Lent) where
+  pub too-few-rows : {r : Laid} {n : ℕ} → n ≡ length (memo g) → length (old .sets) < n → r ≡ refused 13 → LaidOut g old old r
+  too-few-rows e h q = record { refused13 = λ a. (q, refl); refused14 = λ a b. absurd (omega arith); given = λ a. absurd (omega arith) }
+
+  pub too-few-cells : {r : Laid} {n m : ℕ} → n ≡ length (memo g) → n ≤ length (old .sets) → m ≡ length (skips g) → length (old .skips) < m → r ≡ refused 14 → LaidOut g old old r
+  too-few-cells e h f k q = record { refused13 = λ a. absurd (omega arith); refused14 = λ a b. (q, refl); given = λ a. absurd (omega arith) }
+
+  pub room-for : {n m : ℕ} → n ≡ length (memo g) → n ≤ length (old .sets) → m ≡ length (skips g) → m ≤ length (old .skips) → Room g old
+  room-for e h f k = record { rows = omega arith; cells = omega arith }
+
+  pub enough : {new : Lent} {r : Laid} → Room g old → r ≡ counts g → new ≡ laid g old → LaidOut g old new r
+  enough h q w = record { refused13 = λ a. absurd (omega arith); refused14 = λ a b. absurd (omega arith); given = λ a. (q, w) }
+
+  -- ONE OUTCOME for what was lent
+  pub laid-unique : {new new′ : Lent} {r r′ : Laid} → LaidOut g old new r → LaidOut g old new′ r′ → (r ≡ r′) × (new ≡ new′)
+  laid-unique {new} {new′} {r} {r′} a b = go (decLt (length (old .sets)) (length (memo g))) (decLt (length (old .skips)) (length (skips g)))
+    where
+      both : {q : Laid} {l : Lent} → (r ≡ q) × (new ≡ l) → (r′ ≡ q) × (new′ ≡ l) → (r ≡ r′) × (new ≡ new′)
+      both x y = (x .0 ∙ sym (y .0), x .1 ∙ sym (y .1))
+
+      go : Dec (length (old .sets) < length (memo g)) → Dec (length (old .skips) < length (skips g)) → (r ≡ r′) × (new ≡ new′)
+      go (yes h) d = both (a .refused13 h) (b .refused13 h)
+      go (no h) (yes k) = let l : length (memo g) ≤ length (old .sets) = omega arith in both (a .refused14 l k) (b .refused14 l k)
+      go (no h) (no k) = let l : Room g old = record { rows = omega arith; cells = omega arith } in both (a .given l) (b .given l)

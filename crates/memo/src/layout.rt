@@ -1,0 +1,132 @@
+// Laying out the memo as a whole.
+ghost use mathlib.Core.Path.{_≡_};
+ghost use Prim.Native.Nat.{_≤_};
+ghost use lib.ListN.{length, take};
+ghost use Rattle.rules.specs.Query.{graphOf};
+ghost use Rattle.rules.specs.Checked.{GoodGraph};
+ghost use Rattle.rules.specs.Rows.{memo};
+ghost use Rattle.rules.specs.Skips.{skips};
+ghost use Rattle.memo.specs.Vectors.{written};
+ghost use Rattle.memo.specs.Layout.{lent, OneLength, Room, laid, refused, LaidOut};
+use super::columns::lay_estimates;
+use super::columns::lay_zeros;
+use super::rows::count_cells;
+use super::rows::count_rows;
+use super::rows::count_size;
+use super::rows::lay_sets;
+use super::skips::fill_vectors;
+
+// What laying out answers: 0 or the refusal's number, and how many rows and cells there are, 0 where refused.
+pub struct Laid {
+    pub refusal: u64,
+    pub rows: u64,
+    pub cells: u64,
+}
+
+// The answer where a refusal has been met.
+fn refuse(number: u64) -> Laid
+    ensures { λ r. ⌜ r ≡ refused number ⌝ }
+{
+    Laid {
+        refusal: number,
+        rows: 0,
+        cells: 0,
+    }
+}
+
+// Writes the skip vectors of all sizes, in memo order; `sets` begins with the sets of all rows.
+fn lay_skips(
+    rows: &[u64],
+    left: &[u64],
+    right: &[u64],
+    divisors: &[u64],
+    sets: &[u64],
+    out: &mut [u64],
+)
+    requires { ⌜ GoodGraph (graphOf (now rows) (now left) (now right) (now divisors)) ⌝ }
+    requires { ⌜ take (length (memo (graphOf (now rows) (now left) (now right) (now divisors)))) (now sets) ≡ memo (graphOf (now rows) (now left) (now right) (now divisors)) ⌝ }
+    requires { ⌜ length (skips (graphOf (now rows) (now left) (now right) (now divisors))) ≤ length (now out) ⌝ }
+    ensures { λ _. ⌜ now (out .exit) ≡ written (now (out .entry)) 0 (skips (graphOf (now (rows .entry)) (now (left .entry)) (now (right .entry)) (now (divisors .entry)))) ⌝ }
+{
+    let mut from = 0usize;
+    let mut at = 0usize;
+    for k in 0..rows.len() {
+        let count = count_size(rows, left, right, divisors, k as u64 + 1);
+        fill_vectors(sets, from, from + count, k + 1, out, at);
+        from += count;
+        at += count * (k + 1);
+    }
+}
+
+// Writes every column and the skip cells; `count` is the number of rows.
+fn lay_columns(
+    rows: &[u64],
+    left: &[u64],
+    right: &[u64],
+    divisors: &[u64],
+    count: usize,
+    sets: &mut [u64],
+    estimates: &mut [u64],
+    costs: &mut [u64],
+    outers: &mut [u64],
+    methods: &mut [u64],
+    skips: &mut [u64],
+)
+    requires { ⌜ GoodGraph (graphOf (now rows) (now left) (now right) (now divisors)) ⌝ }
+    requires { ⌜ OneLength (lent (now sets) (now estimates) (now costs) (now outers) (now methods) (now skips)) ⌝ }
+    requires { ⌜ Room (graphOf (now rows) (now left) (now right) (now divisors)) (lent (now sets) (now estimates) (now costs) (now outers) (now methods) (now skips)) ⌝ }
+    requires { ⌜ count ≡ length (memo (graphOf (now rows) (now left) (now right) (now divisors))) ⌝ }
+    ensures { λ _. ⌜ lent (now (sets .exit)) (now (estimates .exit)) (now (costs .exit)) (now (outers .exit)) (now (methods .exit)) (now (skips .exit)) ≡ laid (graphOf (now (rows .entry)) (now (left .entry)) (now (right .entry)) (now (divisors .entry))) (lent (now (sets .entry)) (now (estimates .entry)) (now (costs .entry)) (now (outers .entry)) (now (methods .entry)) (now (skips .entry))) ⌝ }
+{
+    lay_sets(rows, left, right, divisors, sets);
+    lay_estimates(rows, left, right, divisors, sets, count, estimates);
+    lay_zeros(count, costs);
+    lay_zeros(count, outers);
+    lay_zeros(count, methods);
+    lay_skips(rows, left, right, divisors, sets, skips);
+}
+
+// Lays out the memo, or answers refusal 13 or 14 where a lent list is too short; nothing is written before both counts have passed.
+pub fn lay_out(
+    rows: &[u64],
+    left: &[u64],
+    right: &[u64],
+    divisors: &[u64],
+    sets: &mut [u64],
+    estimates: &mut [u64],
+    costs: &mut [u64],
+    outers: &mut [u64],
+    methods: &mut [u64],
+    skips: &mut [u64],
+) -> Laid
+    requires { ⌜ GoodGraph (graphOf (now rows) (now left) (now right) (now divisors)) ⌝ }
+    requires { ⌜ OneLength (lent (now sets) (now estimates) (now costs) (now outers) (now methods) (now skips)) ⌝ }
+    ensures { λ r. ⌜ LaidOut (graphOf (now (rows .entry)) (now (left .entry)) (now (right .entry)) (now (divisors .entry))) (lent (now (sets .entry)) (now (estimates .entry)) (now (costs .entry)) (now (outers .entry)) (now (methods .entry)) (now (skips .entry))) (lent (now (sets .exit)) (now (estimates .exit)) (now (costs .exit)) (now (outers .exit)) (now (methods .exit)) (now (skips .exit))) r ⌝ }
+{
+    let count = count_rows(rows, left, right, divisors);
+    if sets.len() < count {
+        return refuse(13);
+    }
+    let cells = count_cells(rows, left, right, divisors);
+    if skips.len() < cells {
+        return refuse(14);
+    }
+    lay_columns(
+        rows,
+        left,
+        right,
+        divisors,
+        count,
+        sets,
+        estimates,
+        costs,
+        outers,
+        methods,
+        skips,
+    );
+    Laid {
+        refusal: 0,
+        rows: count as u64,
+        cells: cells as u64,
+    }
+}
