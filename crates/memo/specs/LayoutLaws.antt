@@ -9,10 +9,12 @@ use lib.ListN.{length, take, drop, length-append, length-take, replicate}
 use lib.Seq.{slice, take-take, take-at, drop-at, sets-eq, length-sets}
 use Rattle.rules.specs.Limits.{maxTables}
 use Rattle.rules.specs.Lists.{inRow, over}
-use Rattle.rules.specs.Query.{Graph, tableCount}
+use Rattle.rules.specs.Query.{Graph, Query, tableCount}
 use Rattle.rules.specs.Estimate.{estimate}
 use Rattle.rules.specs.Rows.{rowsOf, memo}
 use Rattle.rules.specs.Skips.{vectorsFrom, vectors, skips}
+use Rattle.rules.specs.Refusals.{groups, firstOf, checksOf}
+use Rattle.rules.specs.laws.Refusals.{AllAre, AllSame, same-groups}
 use Rattle.memo.specs.Walk.{upTo}
 use Rattle.memo.specs.WalkLaws.{wrote-both, upTo-more, length-more}
 use Rattle.memo.specs.SizeRows.{SizeRows}
@@ -20,7 +22,7 @@ use Rattle.memo.specs.Vectors.{written}
 use Rattle.memo.specs.FindLaws.{rows-sized}
 use Rattle.memo.specs.VectorLaws.{vectors-of, vectors-cells}
 use Rattle.memo.specs.declared.layout.Laid.{Laid}
-use Rattle.memo.specs.Layout.{cellsTo, Lent, lent, Room, laid, refused, answered, counts, LaidOut}
+use Rattle.memo.specs.Layout.{cellsTo, Lent, lent, OneLength, Room, laid, refused, answered, counts, LaidOut}
 
 -- ---- lists in a row
 row-split : {C : Type 0} (f : ℕ → List C) (k n m : ℕ) → inRow f k (n + m) ≡ inRow f k n ++ inRow f (k + n) m
@@ -158,3 +160,12 @@ module _ (g : Graph) (old : Lent) where
       go (yes h) d = both (a .refused13 h) (b .refused13 h)
       go (no h) (yes k) = let l : length (memo g) ≤ length (old .sets) = omega arith in both (a .refused14 l k) (b .refused14 l k)
       go (no h) (no k) = let l : Room g old = record { rows = omega arith; cells = omega arith } in both (a .given l) (b .given l)
+
+-- ---- what check has seen to
+-- a query whose checks pass with these lengths of the memo's columns
+pub one-length : (q : Query) (workers scheme : ℕ) (turns log : List ℕ) (old : Lent)
+    → firstOf (checksOf q workers scheme turns (length (old .sets) ∷ length (old .estimates) ∷ length (old .costs) ∷ length (old .outers) ∷ length (old .methods) ∷ []) log) .number ≡ 0 → OneLength old
+unfolding AllSame AllAre groups
+one-length q workers scheme turns log old e =
+    let h = same-groups q workers scheme turns (length (old .sets) ∷ length (old .estimates) ∷ length (old .costs) ∷ length (old .outers) ∷ length (old .methods) ∷ []) log e .1 .1 .1 .0 in
+    record { estimates = h .0; costs = h .1 .0; outers = h .1 .1 .0; methods = h .1 .1 .1 .0 }

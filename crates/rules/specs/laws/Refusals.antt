@@ -352,7 +352,7 @@ module _ (q : Query) (workers scheme : ℕ) (turns memoColumns logColumns : List
   passed : AllNone (checksOf q workers scheme turns memoColumns logColumns)
   passed = none-all (checksOf q workers scheme turns memoColumns logColumns) e
 
-  same-groups : AllSame (groups q memoColumns logColumns)
+  pub same-groups : AllSame (groups q memoColumns logColumns)
   unfolding checksOf AllNone
   same-groups = same-true (groups q memoColumns logColumns) (not-false (allSame (groups q memoColumns logColumns)) (none-refuse 0 (not (allSame (groups q memoColumns logColumns))) (passed .0)))
 
