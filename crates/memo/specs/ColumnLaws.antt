@@ -1,11 +1,12 @@
 -- Laws of columns: one more store.
 use mathlib.Core.Path.{_≡_, refl, sym, ap, _∙_}
 use mathlib.Core.List.{List, [], _∷_, _++_, map, map-append}
-use Prim.Native.Nat.{ℕ, zero, suc, _+_, _-_, _≤_, _<_}
+use Prim.Native.Nat.{ℕ, zero, suc, _+_, _≤_, _<_}
+use native.Mathlib.Decide.{decLt}
 use native.Mathlib.Omega.{arith}
 use native.Mathlib.Numerals.{add-one}
-use lib.ListN.{length, getD, set, take, length-append, length-take, replicate, length-replicate, replicate-append-replicate}
-use lib.Seq.{take-suc, set-comm}
+use lib.ListN.{length, getD, set, take, length-append, length-take, replicate, length-replicate, replicate-append-replicate, List·getD-append}
+use lib.Seq.{take-suc, set-comm, getD-at}
 use Rattle.rules.specs.Query.{Graph, tableCount}
 use Rattle.rules.specs.laws.Lists.{length-map}
 use Rattle.memo.specs.Walk.{upTo}
@@ -57,3 +58,18 @@ module _ (g : Graph) where
   pub starts-end : (d : List ℕ) (k : ℕ) {l : List ℕ} {v : ℕ} → k ≡ tableCount g → l ≡ written d 1 (startsTo g k) → v ≡ length (upTo g k) → set (set l (tableCount g + 1) v) 0 0 ≡ written d 0 (starts g)
   starts-end d k {l} {v} e o w =
       rw (starts-more d (tableCount g) (rw e at o) (rw e at w)) (store-ahead d 1 0 0 (startsTo g (tableCount g + 1)) (omega arith))
+
+  -- what a reader finds in cell k + 1: how many rows have the sizes 1 to k
+  starts-to-at : (n k : ℕ) → k < n → getD (startsTo g n) k 0 ≡ length (upTo g k)
+  unfolding startsTo
+  starts-to-at zero k h = absurd (omega arith)
+  starts-to-at (suc n) k h = go (λ l. starts-to-at n k l) (decLt k n)
+    where
+      go : (k < n → getD (startsTo g n) k 0 ≡ length (upTo g k)) → Dec (k < n) → getD (startsTo g n ++ length (upTo g n) ∷ []) k 0 ≡ length (upTo g k)
+      go ih (yes l) = List·getD-append (startsTo g n) (length (upTo g n) ∷ []) 0 k (omega (arith, length-starts n)) ∙ ih l
+      go ih (no z) =
+          let e : n ≡ k = omega arith in
+          getD-at (startsTo g n) (length (upTo g n)) [] 0 k (length-starts n ∙ e) ∙ ap (λ (i : ℕ). length (upTo g i)) e
+
+  pub starts-at : (k : ℕ) → k ≤ tableCount g → getD (starts g) (k + 1) 0 ≡ length (upTo g k)
+  starts-at k h = ap (λ (i : ℕ). getD (starts g) i 0) (add-one k) ∙ starts-to-at (tableCount g + 1) k (omega arith)

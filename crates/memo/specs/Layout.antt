@@ -8,6 +8,7 @@ use Rattle.rules.specs.Query.{Graph, tableCount}
 use Rattle.rules.specs.Estimate.{estimate}
 use Rattle.rules.specs.Rows.{memo}
 use Rattle.rules.specs.Skips.{vectors, skips}
+use Rattle.rules.specs.Refusals.{Memory}
 use Rattle.memo.specs.declared.layout.Laid.{Laid}
 use Rattle.memo.specs.Walk.{upTo}
 use Rattle.memo.specs.Vectors.{written}
@@ -37,6 +38,10 @@ pub record Lent : Type 0 where
 abbrev pub lent : List ℕ → List ℕ → List ℕ → List ℕ → List ℕ → List ℕ → Lent
 lent s e c o m k = record { sets = s; estimates = e; costs = c; outers = o; methods = m; skips = k }
 
+-- the part of a caller's memory that laying out writes
+abbrev pub lentOf : Memory → Lent
+lentOf m = lent (m .sets) (m .estimates) (m .costs) (m .outers) (m .methods) (m .skips)
+
 -- "lent lists holding fields of the same records" have one length: what check 1 has seen to
 pub record OneLength (old : Lent) : Type 0 where
   pub estimates : length (old .estimates) ≡ length (old .sets)
@@ -60,14 +65,14 @@ laid g old = record {
   skips = written (old .skips) 0 (skips g);
 }
 
-abbrev pub refused : ℕ → Laid
-refused number = record { refusal = number; rows = 0; cells = 0 }
+abbrev pub answered : ℕ → ℕ → ℕ → Laid
+answered refusal rows cells = record { refusal = refusal; rows = rows; cells = cells }
 
-abbrev pub answered : ℕ → ℕ → Laid
-answered rows cells = record { refusal = 0; rows = rows; cells = cells }
+abbrev pub refused : ℕ → Laid
+refused number = answered number 0 0
 
 abbrev pub counts : Graph → Laid
-counts g = answered (length (memo g)) (length (skips g))
+counts g = answered 0 (length (memo g)) (length (skips g))
 
 -- the answer and what is left of what was lent, in each of the three cases
 pub record LaidOut (g : Graph) (old new : Lent) (r : Laid) : Type 0 where

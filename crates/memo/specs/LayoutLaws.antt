@@ -1,19 +1,20 @@
 -- Laws of laying out: the rows of one size in a list of all rows, their skip cells after those of the smaller sizes, the columns, the one outcome.
 use mathlib.Core.Path.{_≡_, refl, sym, ap, ap₂, _∙_}
-use mathlib.Core.List.{List, [], _∷_, _++_, map, append-assoc, append-nil}
+use mathlib.Core.List.{List, [], _++_, map, append-assoc, append-nil, _∷_}
 use Prim.Native.Nat.{ℕ, zero, suc, _+_, _-_, _*_, _≤_, _<_}
 use native.Mathlib.Nat.{zero-add}
 use native.Mathlib.Decide.{decLt}
 use native.Mathlib.Omega.{arith}
+use borrow.Author.Tests.{lt-ltb, le-ltb}
 use lib.ListN.{length, take, drop, length-append, length-take, replicate}
 use lib.Seq.{slice, take-take, take-at, drop-at, sets-eq, length-sets}
 use Rattle.rules.specs.Limits.{maxTables}
 use Rattle.rules.specs.Lists.{inRow, over}
-use Rattle.rules.specs.Query.{Graph, Query, tableCount}
+use Rattle.rules.specs.Query.{Graph, tableCount, Query}
 use Rattle.rules.specs.Estimate.{estimate}
 use Rattle.rules.specs.Rows.{rowsOf, memo}
 use Rattle.rules.specs.Skips.{vectorsFrom, vectors, skips}
-use Rattle.rules.specs.Refusals.{groups, firstOf, checksOf}
+use Rattle.rules.specs.Refusals.{Input, refuse, firstOf, rooms, groups, checksOf}
 use Rattle.rules.specs.laws.Refusals.{AllAre, AllSame, same-groups}
 use Rattle.memo.specs.Walk.{upTo}
 use Rattle.memo.specs.WalkLaws.{wrote-both, upTo-more, length-more}
@@ -22,7 +23,7 @@ use Rattle.memo.specs.Vectors.{written}
 use Rattle.memo.specs.FindLaws.{rows-sized}
 use Rattle.memo.specs.VectorLaws.{vectors-of, vectors-cells}
 use Rattle.memo.specs.declared.layout.Laid.{Laid}
-use Rattle.memo.specs.Layout.{cellsTo, Lent, lent, OneLength, Room, laid, refused, answered, counts, LaidOut}
+use Rattle.memo.specs.Layout.{cellsTo, Lent, lent, lentOf, Room, laid, refused, answered, counts, LaidOut, OneLength}
 
 -- ---- lists in a row
 row-split : {C : Type 0} (f : ℕ → List C) (k n m : ℕ) → inRow f k (n + m) ≡ inRow f k n ++ inRow f (k + n) m
@@ -68,23 +69,35 @@ module _ (g : Graph) where
   unfolding memo
   memo-whole k h = row-whole (rowsOf g) k (tableCount g) h
 
--- ---- the rows of size k + 1 in a list s that begins with the memo's rows: where they begin, how many they are, where their cells begin
-module _ (g : Graph) (k from count at : ℕ) (s : List ℕ) (few : tableCount g ≤ maxTables) (l : k < tableCount g) (m : take (length (memo g)) s ≡ memo g)
-    (f : from ≡ length (upTo g k)) (c : count ≡ length (rowsOf g (k + 1))) (a : at ≡ length (cellsTo g k)) where
-  part : slice from (from + count) s ≡ rowsOf g (k + 1)
-  part =
-      let w = memo-whole g (k + 1) (omega arith) ∙ ap (λ (r : List ℕ). r ++ inRow (rowsOf g) (1 + (k + 1)) (tableCount g - (k + 1))) (upTo-more g k) in
-      part-at s (memo g) (upTo g k) (rowsOf g (k + 1)) (inRow (rowsOf g) (1 + (k + 1)) (tableCount g - (k + 1))) m w f (ap (λ (x : ℕ). from + x) c)
+-- in a list that begins with the memo's rows, those of size k + 1 stand behind those of the smaller sizes
+pub rows-part : (g : Graph) (k : ℕ) (s : List ℕ) {from to : ℕ} → k < tableCount g → take (length (memo g)) s ≡ memo g → from ≡ length (upTo g k) → to ≡ length (upTo g (k + 1)) → slice from to s ≡ rowsOf g (k + 1)
+rows-part g k s {from} {to} l t f e =
+    let n : to ≡ from + length (rowsOf g (k + 1)) = omega (arith, length-more g k) in
+    let w = memo-whole g (k + 1) (omega arith) ∙ ap (λ (r : List ℕ). r ++ inRow (rowsOf g) (1 + (k + 1)) (tableCount g - (k + 1))) (upTo-more g k) in
+    part-at s (memo g) (upTo g k) (rowsOf g (k + 1)) (inRow (rowsOf g) (1 + (k + 1)) (tableCount g - (k + 1))) t w f n
 
+-- ---- the rows of size k + 1 in a list s that begins with the memo's rows: where they begin, how many they are, where their cells begin
+pub record NextSize (g : Graph) (k from count at : ℕ) (s : List ℕ) : Type 0 where
+  pub few : tableCount g ≤ maxTables
+  pub more : k < tableCount g
+  pub all-rows : take (length (memo g)) s ≡ memo g
+  pub begins : from ≡ length (upTo g k)
+  pub many : count ≡ length (rowsOf g (k + 1))
+  pub cells-begin : at ≡ length (cellsTo g k)
+
+module _ {g : Graph} {k from count at : ℕ} {s : List ℕ} (z : NextSize g k from count at s) where
   pub rows-next : from + count ≡ length (upTo g (k + 1))
   rows-next = omega (arith, length-more g k)
+
+  part : slice from (from + count) s ≡ rowsOf g (k + 1)
+  part = rows-part g k s (z .more) (z .all-rows) (z .begins) rows-next
 
   pub rows-inside : from + count ≤ length s
   rows-inside =
       omega (
         arith,
         rows-next,
-        ap length m,
+        ap length (z .all-rows),
         length-take (length (memo g)) s,
         ap length (memo-whole g (k + 1) (omega arith)),
         length-append (upTo g (k + 1)) (inRow (rowsOf g) (1 + (k + 1)) (tableCount g - (k + 1))),
@@ -92,7 +105,7 @@ module _ (g : Graph) (k from count at : ℕ) (s : List ℕ) (few : tableCount g 
 
   pub cells-next-at : at + count * (k + 1) ≡ length (cellsTo g (k + 1))
   cells-next-at =
-      omega (arith, ap (λ (x : ℕ). x * (k + 1)) c, vectors-cells g (k + 1), ap length (cells-size g k), length-append (cellsTo g k) (vectors g (k + 1)))
+      omega (arith, ap (λ (x : ℕ). x * (k + 1)) (z .many), vectors-cells g (k + 1), ap length (cells-size g k), length-append (cellsTo g k) (vectors g (k + 1)))
 
   pub cells-inside : at + count * (k + 1) ≤ length (skips g)
   cells-inside = omega (arith, cells-next-at, cells-le g (k + 1) (omega arith))
@@ -105,7 +118,7 @@ module _ (g : Graph) (k from count at : ℕ) (s : List ℕ) (few : tableCount g 
   -- and their cells are written after those of the smaller sizes
   pub wrote-size : (old : List ℕ) {mid new : List ℕ} → mid ≡ written old 0 (cellsTo g k) → new ≡ written mid at (vectorsFrom 32 1 (slice from (from + count) s)) → new ≡ written old 0 (cellsTo g (k + 1))
   wrote-size old {mid} h n =
-      wrote-both old 0 (cellsTo g k) (vectors g (k + 1)) (a ∙ sym (zero-add (length (cellsTo g k)))) h (n ∙ ap (written mid at) (vectors-of g (k + 1) (slice from (from + count) s) (omega arith) part))
+      wrote-both old 0 (cellsTo g k) (vectors g (k + 1)) (z .cells-begin ∙ sym (zero-add (length (cellsTo g k)))) h (n ∙ ap (written mid at) (vectors-of g (k + 1) (slice from (from + count) s) (omega arith) part))
       ∙ ap (written old 0) (sym (cells-size g k))
 
 -- ---- columns
@@ -133,8 +146,8 @@ pub lent-same : {s e c o m k s′ e′ c′ o′ m′ k′ : List ℕ} → s ≡
 lent-same a b c d e f = rw (a, b, c, d, e, f)
 
 -- ---- the three cases
-pub counted : (g : Graph) (n m : ℕ) → n ≡ length (memo g) → m ≡ length (skips g) → answered n m ≡ counts g
-counted g n m e f = rw (e, f)
+pub counted : (g : Graph) (n m : ℕ) {r : Laid} → n ≡ length (memo g) → m ≡ length (skips g) → r ≡ answered 0 n m → r ≡ counts g
+counted g n m e f q = q ∙ ap₂ (answered 0) e f
 
 module _ (g : Graph) (old : Lent) where
   pub too-few-rows : {r : Laid} {n : ℕ} → n ≡ length (memo g) → length (old .sets) < n → r ≡ refused 13 → LaidOut g old old r
@@ -161,8 +174,29 @@ module _ (g : Graph) (old : Lent) where
       go (no h) (yes k) = let l : length (memo g) ≤ length (old .sets) = omega arith in both (a .refused14 l k) (b .refused14 l k)
       go (no h) (no k) = let l : Room g old = record { rows = omega arith; cells = omega arith } in both (a .given l) (b .given l)
 
+-- the answer's number is what the rules say of refusals 13 and 14
+pub laid-verdict : (i : Input) {new : Lent} {r : Laid} → LaidOut (i .query .graph) (lentOf (i .lent)) new r → r .refusal ≡ firstOf (rooms i) .number
+unfolding rooms firstOf refuse
+laid-verdict i {new} {r} a = go (decLt (length (i .lent .sets)) (length (memo g))) (decLt (length (i .lent .skips)) (length (skips g)))
+  where
+    g : Graph
+    g = i .query .graph
+
+    number : {q : Laid} → r ≡ q → r .refusal ≡ q .refusal
+    number e = ap (λ (x : Laid). x .refusal) e
+
+    go : Dec (length (i .lent .sets) < length (memo g)) → Dec (length (i .lent .skips) < length (skips g)) → r .refusal ≡ firstOf (rooms i) .number
+    go (yes h) d = rw (lt-ltb (length (i .lent .sets)) (length (memo g)) h) (number (a .refused13 h .0))
+    go (no h) (yes k) =
+        let l : length (memo g) ≤ length (i .lent .sets) = omega arith in
+        rw (le-ltb (length (i .lent .sets)) (length (memo g)) l, lt-ltb (length (i .lent .skips)) (length (skips g)) k) (number (a .refused14 l k .0))
+    go (no h) (no k) =
+        let l : length (memo g) ≤ length (i .lent .sets) = omega arith in
+        let m : length (skips g) ≤ length (i .lent .skips) = omega arith in
+        rw (le-ltb (length (i .lent .sets)) (length (memo g)) l, le-ltb (length (i .lent .skips)) (length (skips g)) m) (number (a .given (record { rows = l; cells = m }) .0))
+
 -- ---- what check has seen to
--- a query whose checks pass with these lengths of the memo's columns
+-- the memo's columns have one length where the checks of a query pass with their lengths
 pub one-length : (q : Query) (workers scheme : ℕ) (turns log : List ℕ) (old : Lent)
     → firstOf (checksOf q workers scheme turns (length (old .sets) ∷ length (old .estimates) ∷ length (old .costs) ∷ length (old .outers) ∷ length (old .methods) ∷ []) log) .number ≡ 0 → OneLength old
 unfolding AllSame AllAre groups

@@ -7,7 +7,7 @@ ghost use Rattle.rules.specs.Checked.{GoodGraph};
 ghost use Rattle.rules.specs.Rows.{memo};
 ghost use Rattle.rules.specs.Skips.{skips};
 ghost use Rattle.memo.specs.Vectors.{written};
-ghost use Rattle.memo.specs.Layout.{lent, OneLength, Room, laid, refused, LaidOut};
+ghost use Rattle.memo.specs.Layout.{lent, OneLength, Room, laid, answered, LaidOut};
 use super::columns::lay_estimates;
 use super::columns::lay_zeros;
 use super::rows::count_cells;
@@ -23,14 +23,13 @@ pub struct Laid {
     pub cells: u64,
 }
 
-// The answer where a refusal has been met.
-fn refuse(number: u64) -> Laid
-    ensures { λ r. ⌜ r ≡ refused number ⌝ }
+fn answer(refusal: u64, rows: usize, cells: usize) -> Laid
+    ensures { λ r. ⌜ r ≡ answered refusal rows cells ⌝ }
 {
     Laid {
-        refusal: number,
-        rows: 0,
-        cells: 0,
+        refusal: refusal,
+        rows: rows as u64,
+        cells: cells as u64,
     }
 }
 
@@ -105,11 +104,11 @@ pub fn lay_out(
 {
     let count = count_rows(rows, left, right, divisors);
     if sets.len() < count {
-        return refuse(13);
+        return answer(13, 0, 0);
     }
     let cells = count_cells(rows, left, right, divisors);
     if skips.len() < cells {
-        return refuse(14);
+        return answer(14, 0, 0);
     }
     lay_columns(
         rows,
@@ -124,9 +123,5 @@ pub fn lay_out(
         methods,
         skips,
     );
-    Laid {
-        refusal: 0,
-        rows: count as u64,
-        cells: cells as u64,
-    }
+    answer(0, count, cells)
 }

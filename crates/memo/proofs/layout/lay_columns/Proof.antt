@@ -1,5 +1,4 @@
-use mathlib.Core.Path.{_≡_, refl, sym, _∙_}
-use lib.ListN.{length}
+use mathlib.Core.Path.{refl}
 use Rattle.rules.specs.Query.{graphOf}
 use Rattle.rules.specs.Rows.{memo}
 use Rattle.memo.specs.LayoutLaws.{front, still-long, has-room, estimates-laid, zeros-laid, lent-same}

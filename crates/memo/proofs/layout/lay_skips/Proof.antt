@@ -1,5 +1,5 @@
 use mathlib.Core.Path.{_≡_, refl, sym, ap, _∙_}
-use Prim.Native.Nat.{_+_, _-_, _*_, _≤_}
+use Prim.Native.Nat.{_-_, _≤_}
 use native.Mathlib.Omega.{arith}
 use lib.ListN.{length}
 use Rattle.rules.specs.Query.{graphOf}
@@ -7,7 +7,7 @@ use Rattle.memo.specs.Walk.{upTo}
 use Rattle.memo.specs.WalkLaws.{upTo-none}
 use Rattle.memo.specs.Vectors.{written}
 use Rattle.memo.specs.Layout.{cellsTo}
-use Rattle.memo.specs.LayoutLaws.{cells-start, cells-all, rows-next, rows-inside, cells-next-at, cells-inside, size-ready, wrote-size}
+use Rattle.memo.specs.LayoutLaws.{NextSize, cells-start, cells-all, rows-next, rows-inside, cells-next-at, cells-inside, size-ready, wrote-size}
 use Rattle.memo.proofs.layout.lay_skips.Statement.{statement}
 use Rattle.memo.proofs.layout.lay_skips.Tie as tie
 
@@ -31,12 +31,17 @@ add-count-size c = omega arith
 count-size-requires : tie.Need-count-size-requires Inv-loop μ-loop
 count-size-requires c κs = (c .before .before .before .before .before .before .before .before .pre .0, omega arith)
 
-add-fill-vectors : tie.Need-add-fill-vectors Inv-loop μ-loop
-add-fill-vectors c =
+ready : (c : tie.After-count-size Inv-loop μ-loop) →
     let s = c .before .before .before .before .before .before .before .before .before in
     let l = c .before .before .loop in
-    let g = graphOf (s .args .rows .now) (s .args .left .now) (s .args .right .now) (s .args .divisors .now) in
-    omega (arith, rows-inside g (l .k) (l .from) (c .count-size .result) (l .at) (s .args .sets .now) (omega arith) (omega arith) (s .pre .1 .0) (l .inv .3) (c .count-size .ensures) (l .inv .4))
+    NextSize (graphOf (s .args .rows .now) (s .args .left .now) (s .args .right .now) (s .args .divisors .now)) (l .k) (l .from) (c .count-size .result) (l .at) (s .args .sets .now)
+ready c =
+    let s = c .before .before .before .before .before .before .before .before .before in
+    let l = c .before .before .loop in
+    record { few = omega arith; more = omega arith; all-rows = s .pre .1 .0; begins = l .inv .3; many = c .count-size .ensures; cells-begin = l .inv .4 }
+
+add-fill-vectors : tie.Need-add-fill-vectors Inv-loop μ-loop
+add-fill-vectors c = omega (arith, rows-inside (ready c))
 
 add-fill-vectors-2 : tie.Need-add-fill-vectors-2 Inv-loop μ-loop
 add-fill-vectors-2 c = omega arith
@@ -44,18 +49,10 @@ add-fill-vectors-2 c = omega arith
 fill-vectors-requires : tie.Need-fill-vectors-requires Inv-loop μ-loop
 fill-vectors-requires c κs =
     let s = c .before .before .before .before .before .before .before .before .before .before in
-    let l = c .before .before .before .loop in
-    let r = c .before .count-size in
-    let g = graphOf (s .args .rows .now) (s .args .left .now) (s .args .right .now) (s .args .divisors .now) in
-    size-ready g (l .k) (l .from) (r .result) (l .at) (s .args .sets .now) (omega arith) (omega arith) (s .pre .1 .0) (l .inv .3) (r .ensures) (l .inv .4) (omega (arith, s .pre .1 .1))
+    size-ready (ready (c .before)) (omega (arith, s .pre .1 .1))
 
 add-from : tie.Need-add-from Inv-loop μ-loop
-add-from c =
-    let s = c .before .before .before .before .before .before .before .before .before .before .before .before .before in
-    let l = c .before .before .before .before .before .before .loop in
-    let r = c .before .before .before .before .count-size in
-    let g = graphOf (s .args .rows .now) (s .args .left .now) (s .args .right .now) (s .args .divisors .now) in
-    omega (arith, rows-inside g (l .k) (l .from) (r .result) (l .at) (s .args .sets .now) (omega arith) (omega arith) (s .pre .1 .0) (l .inv .3) (r .ensures) (l .inv .4))
+add-from c = omega (arith, rows-inside (ready (c .before .before .before .before)))
 
 add-at : tie.Need-add-at Inv-loop μ-loop
 add-at c = omega arith
@@ -63,18 +60,12 @@ add-at c = omega arith
 mul-at : tie.Need-mul-at Inv-loop μ-loop
 mul-at c =
     let s = c .before .before .before .before .before .before .before .before .before .before .before .before .before in
-    let l = c .before .before .before .before .before .before .loop in
-    let r = c .before .before .before .before .count-size in
-    let g = graphOf (s .args .rows .now) (s .args .left .now) (s .args .right .now) (s .args .divisors .now) in
-    omega (arith, s .pre .1 .1, cells-inside g (l .k) (l .from) (r .result) (l .at) (s .args .sets .now) (omega arith) (omega arith) (s .pre .1 .0) (l .inv .3) (r .ensures) (l .inv .4))
+    omega (arith, s .pre .1 .1, cells-inside (ready (c .before .before .before .before)))
 
 add-at-2 : tie.Need-add-at-2 Inv-loop μ-loop
 add-at-2 c =
     let s = c .before .before .before .before .before .before .before .before .before .before .before .before .before in
-    let l = c .before .before .before .before .before .before .loop in
-    let r = c .before .before .before .before .count-size in
-    let g = graphOf (s .args .rows .now) (s .args .left .now) (s .args .right .now) (s .args .divisors .now) in
-    omega (arith, s .pre .1 .1, cells-inside g (l .k) (l .from) (r .result) (l .at) (s .args .sets .now) (omega arith) (omega arith) (s .pre .1 .0) (l .inv .3) (r .ensures) (l .inv .4))
+    omega (arith, s .pre .1 .1, cells-inside (ready (c .before .before .before .before)))
 
 add-k : tie.Need-add-k Inv-loop μ-loop
 add-k c = omega arith
@@ -86,16 +77,9 @@ loop-again : tie.Need-loop-again Inv-loop μ-loop
 loop-again c =
     let s = c .before .before .before .before .before .before .before .before .before .before .before .before .before in
     let l = c .before .before .before .before .before .before .loop in
-    let r = c .before .before .before .before .count-size in
     let v = c .before .before .fill-vectors in
-    let g = graphOf (s .args .rows .now) (s .args .left .now) (s .args .right .now) (s .args .divisors .now) in (
-      omega arith,
-      l .inv .1,
-      v .kept .1 .1 .1 .1 .0 ∙ l .inv .2,
-      rows-next g (l .k) (l .from) (r .result) (l .at) (s .args .sets .now) (omega arith) (omega arith) (s .pre .1 .0) (l .inv .3) (r .ensures) (l .inv .4),
-      cells-next-at g (l .k) (l .from) (r .result) (l .at) (s .args .sets .now) (omega arith) (omega arith) (s .pre .1 .0) (l .inv .3) (r .ensures) (l .inv .4),
-      wrote-size g (l .k) (l .from) (r .result) (l .at) (s .args .sets .now) (omega arith) (omega arith) (s .pre .1 .0) (l .inv .3) (r .ensures) (l .inv .4) (s .args .out .now) (l .inv .5) (v .ensures),
-    )
+    let z = ready (c .before .before .before .before) in
+    (omega arith, l .inv .1, v .kept .1 .1 .1 .1 .0 ∙ l .inv .2, rows-next z, cells-next-at z, wrote-size z (s .args .out .now) (l .inv .5) (v .ensures))
 
 same-length : tie.Need-same-length Inv-loop μ-loop
 same-length c = c .before .loop .inv .2
