@@ -3,12 +3,14 @@ use mathlib.Core.Path.{_≡_, refl, ap, _∙_}
 use mathlib.Core.Logic.{_⊎_, inl, inr}
 use mathlib.Core.Bool.{true, false, cond}
 use mathlib.Core.List.{List, [], _∷_, _++_, map, List·Memᴰ, List·Memᴰ·head, List·Memᴰ·tail}
-use Prim.Native.Nat.{ℕ, zero, suc, _+_, _≤_, _<_, _^_}
+use Prim.Native.Nat.{ℕ, zero, suc, _+_, _≤_, _<_, _^_, _*_, _-_}
 use native.Mathlib.Decide.{decLt, ℕ-discrete}
+use native.Mathlib.Nat.{zero-mul, suc-mul}
+use native.Mathlib.Numerals.{add-one}
 use native.Mathlib.Omega.{arith}
 use lib.Dec.{eqb}
-use lib.ListN.{length, getD, drop, length-append}
-use lib.Seq.{drop-cons, drop-length}
+use lib.ListN.{List·getD-append, length, getD, drop, length-append}
+use lib.Seq.{getD-append-add, drop-cons, drop-length}
 use borrow.Author.Tests.{eqb-true, eqb-false}
 use Rattle.rules.specs.Lists.{inRow}
 use Rattle.rules.specs.Sets.{holds, Disjoint, size, tables}
@@ -16,7 +18,7 @@ use Rattle.rules.specs.Query.{Graph, tableCount}
 use Rattle.rules.specs.Rows.{rowsOf, memo}
 use Rattle.rules.specs.Skips.{row, Skip, skipFrom, vectorsFrom, vectors, skips}
 use Rattle.rules.specs.laws.Bools.{true-or-false}
-use Rattle.rules.specs.laws.Lists.{length-map, sum, sum-append}
+use Rattle.rules.specs.laws.Lists.{at-map, length-map, sum, sum-append}
 use Rattle.rules.specs.laws.Sets.{holds-apart}
 use Rattle.rules.specs.laws.Tables.{tables-size}
 use Rattle.rules.specs.laws.Rows.{rows-only, below-all}
@@ -59,6 +61,36 @@ skip-overlaps {rows} {i} {t} {k} D s hd hi j l u d = go (decLt i j)
     go : Dec (i < j) → ⊥
     go (yes a) = both (s .passed j a u)
     go (no z) = let e : i ≡ j = omega arith in both (rw e at hi)
+
+-- ---- where a value stands
+-- rows of k tables each: the cell of row p, from 0, and its j-th table, from 0
+cell-at : (n k : ℕ) (rows : List ℕ) (i p j : ℕ) → ((S : ℕ) → List·Memᴰ S rows → length (tables n S) ≡ k) → p < length rows → j < k
+    → getD (vectorsFrom n i rows) (p * k + j) 0 ≡ skipFrom (getD (tables n (getD rows p 0)) j 0) (suc (i + p)) (drop (suc p) rows)
+unfolding vectorsFrom
+cell-at n k [] i p j h l u = absurd (omega arith)
+cell-at n k (S ∷ rest) i zero j h l u =
+    let c : length (tables n S) ≡ k = h S (List·Memᴰ·head refl) in
+    let e : 0 * k + j ≡ j = omega (arith, zero-mul k) in
+    let f : i + 0 ≡ i = omega arith in
+    rw (e, f, List·getD-append (map (λ (t : ℕ). skipFrom t (suc i) rest) (tables n S)) (vectorsFrom n (suc i) rest) 0 j (omega (arith, length-map (λ (t : ℕ). skipFrom t (suc i) rest) (tables n S))))
+    (at-map (λ (t : ℕ). skipFrom t (suc i) rest) 0 (tables n S) j (omega arith))
+cell-at n k (S ∷ rest) i (suc p) j h l u =
+    let v : List ℕ = map (λ (t : ℕ). skipFrom t (suc i) rest) (tables n S) in
+    let c : length v ≡ k = length-map (λ (t : ℕ). skipFrom t (suc i) rest) (tables n S) ∙ h S (List·Memᴰ·head refl) in
+    let e : suc p * k + j ≡ length v + (p * k + j) = omega (arith, suc-mul p k) in
+    let f : suc i + p ≡ i + suc p = omega arith in
+    rw (e, getD-append-add v (vectorsFrom n (suc i) rest) (p * k + j) 0) (rw f at (cell-at n k rest (suc i) p j (λ X m. h X (List·Memᴰ·tail m)) (omega arith) u))
+
+-- THE SKIP TABLE OF A SIZE: for row p + 1 and the (j + 1)-th table of its set, the cell holds the least later row that lacks it
+pub vector-right : (g : Graph) (k p j : ℕ) → p < length (rowsOf g k) → j < k
+    → Skip (rowsOf g k) (p + 1) (getD (tables (tableCount g) (getD (rowsOf g k) p 0)) j 0) (getD (vectors g k) (p * k + j) 0)
+unfolding vectors tables
+vector-right g k p j l u =
+    let t : ℕ = getD (tables (tableCount g) (getD (rowsOf g k) p 0)) j 0 in
+    let sized : (S : ℕ) → List·Memᴰ S (rowsOf g k) → length (tables (tableCount g) S) ≡ k =
+    (λ S m. let r = rows-only g k S m in tables-size 1 (tableCount g) S (below-all g S (r .0)) ∙ r .1) in
+    let e : 1 + p ≡ suc p = omega arith in
+    rw (add-one p, cell-at (tableCount g) k (rowsOf g k) 1 p j sized l u, e) (skip-right (rowsOf g k) t (length (rowsOf g k) - suc p) (suc p) (omega arith))
 
 -- ---- "the sum of those sets' sizes"
 vectors-length : (n i : ℕ) (rows : List ℕ) → ((S : ℕ) → List·Memᴰ S rows → S < 2 ^ n) → length (vectorsFrom n i rows) ≡ sum (map size rows)
