@@ -34,7 +34,7 @@ better a b = cond (sooner a b) a b
 
 module _ (a b : Choice) where
   -- the tests, one by one, as one of the two orders
-  better-first : NoLater (better a b) a × NoLater (better a b) b
+  pub better-first : NoLater (better a b) a × NoLater (better a b) b
   unfolding better sooner
   better-first = costs (true-or-false (ltb (a .cost) (b .cost))) (true-or-false (eqb (a .cost) (b .cost)))
     where
@@ -64,7 +64,7 @@ module _ (a b : Choice) where
           let n = eqb-false (a .cost) (b .cost) k in
           rw (l, k) (record { by-cost = omega arith; by-outer = λ z. absurd (n (sym z)); by-method = λ z y. absurd (n (sym z)) }, no-later-refl b)
 
-  better-one : (better a b ≡ a) ⊎ (better a b ≡ b)
+  pub better-one : (better a b ≡ a) ⊎ (better a b ≡ b)
   unfolding better
   better-one = ⊎-elim (λ e. inl (rw e)) (λ e. inr (rw e)) (true-or-false (sooner a b))
 

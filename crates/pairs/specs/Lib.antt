@@ -1,0 +1,4 @@
+-- Places among a size's candidates, shares of them, the search from a place on, and the laws that the proofs cite.
+pub mod Shares
+pub mod Joinable
+pub mod Places

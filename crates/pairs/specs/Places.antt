@@ -1,0 +1,152 @@
+-- Places among the candidates of a size, said by rows of the memo, and what the search from a place on finds.
+use mathlib.Core.Path.{_≡_}
+use mathlib.Core.Bool.{Bool, true, false, cond}
+use mathlib.Core.List.{List}
+use Prim.Native.Nat.{ℕ, zero, suc, _+_, _-_, _*_, _/_, _%_, _^_, _≤_, _<_}
+use lib.Dec.{eqb}
+use lib.ListN.{length, getD, take}
+use Rattle.rules.specs.Sets.{holds, Disjoint, size, rank}
+use Rattle.rules.specs.Query.{Graph, tableCount}
+use Rattle.rules.specs.Rows.{rowsOf, memo}
+use Rattle.rules.specs.Skips.{skips}
+use Rattle.rules.specs.Shares.{Numbered, met}
+use Rattle.rules.specs.laws.Complete.{mine}
+use Rattle.memo.specs.Walk.{upTo}
+use Rattle.memo.specs.Layout.{cellsTo}
+use Rattle.pairs.specs.declared.places.Place.{Place}
+use Rattle.pairs.specs.declared.shares.Share.{Share}
+use Rattle.pairs.specs.declared.shares.Span.{Span}
+use Rattle.pairs.specs.Shares.{few, inSpan}
+use Rattle.pairs.specs.Joinable.{isJoinable}
+
+-- ---- where rows stand
+-- the memo's first row of size k, and the first skip cell of size k
+abbrev pub startOf : Graph → ℕ → ℕ
+startOf g k = length (upTo g (k - 1))
+
+abbrev pub cellOf : Graph → ℕ → ℕ
+cellOf g k = length (cellsTo g (k - 1))
+
+-- "Where the two are equal the inner row comes after the driving row": the first inner row of driving row i of size d
+abbrev pub firstOf : List ℕ → ℕ → ℕ → ℕ → ℕ
+firstOf starts s d i = cond (eqb (d + d) s) (i + 1) (getD starts (s - d) 0)
+
+abbrev pub firstRow : Graph → ℕ → ℕ → ℕ → ℕ
+firstRow g s d i = cond (eqb (d + d) s) (i + 1) (startOf g (s - d))
+
+-- where the inner rows end
+abbrev pub endRow : Graph → ℕ → ℕ → ℕ
+endRow g s d = startOf g (s - d + 1)
+
+-- how many candidates the first n driving rows of size d have
+unfoldable pub rowsAhead : Graph → ℕ → ℕ → ℕ → ℕ
+rowsAhead g s d zero = 0
+rowsAhead g s d (suc n) = rowsAhead g s d n + (endRow g s d - firstRow g s d (startOf g d + n))
+
+-- how many the driving sizes 1 to d have
+unfoldable pub sizesAhead : Graph → ℕ → ℕ → ℕ
+sizesAhead g s zero = 0
+sizesAhead g s (suc d) = sizesAhead g s d + rowsAhead g s (suc d) (length (rowsOf g (suc d)))
+
+-- how many are met before driving row i of size d
+abbrev pub aheadOf : Graph → ℕ → ℕ → ℕ → ℕ
+aheadOf g s d i = sizesAhead g s (d - 1) + rowsAhead g s d (i - startOf g d)
+
+-- the candidate of driving row i of size d and inner row j
+abbrev pub candidateAt : Graph → ℕ → ℕ → ℕ → ℕ → Numbered
+candidateAt g s d i j = record {
+  number = aheadOf g s d i + (j - firstRow g s d i);
+  candidate = record { rows = length (rowsOf g d); row = i - startOf g d; count = j - firstRow g s d i; driving = getD (memo g) i 0; inner = getD (memo g) j 0 };
+}
+
+-- no candidate
+abbrev pub noCandidate : Numbered
+noCandidate = record { number = 0; candidate = record { rows = 0; row = 0; count = 0; driving = 0; inner = 0 } }
+
+-- the candidate with number p
+abbrev pub metAt : Graph → ℕ → ℕ → Numbered
+metAt g s p = getD (met g s) p noCandidate
+
+-- the share's worker has candidate p and may join it
+abbrev pub ownAt : Graph → ℕ → Share → ℕ → Bool
+ownAt g s h p = mine g (h .scheme) (h .workers) s (h .worker) (metAt g s p)
+
+-- ---- the memo as laying out leaves it, with where the rows and the cells of each size begin
+pub record Ground (g : Graph) (sets cells starts cellStarts : List ℕ) : Type 0 where
+  pub sets-laid : take (length (memo g)) sets ≡ memo g
+  pub cells-laid : take (length (skips g)) cells ≡ skips g
+  pub starts-known : (k : ℕ) → 1 ≤ k → k ≤ tableCount g + 1 → getD starts k 0 ≡ startOf g k
+  pub starts-long : tableCount g + 1 < length starts
+  pub cells-known : (k : ℕ) → 1 ≤ k → k ≤ tableCount g + 1 → getD cellStarts k 0 ≡ cellOf g k
+  pub cells-long : tableCount g + 1 < length cellStarts
+
+-- ---- one inner row and its skip cells
+-- r is after row j, and the rows from j to r all hold table t
+pub record Hops (sets : List ℕ) (j t r : ℕ) : Type 0 where
+  pub after : j < r
+  pub inside : r ≤ length sets
+  pub held : (p : ℕ) → j ≤ p → p < r → holds (getD sets p 0) t ≡ 1
+
+-- row j of a size of k tables whose first row is base and whose first cell is cell: its cells hold where to go on
+pub record RowCells (sets cells : List ℕ) (base cell k j : ℕ) : Type 0 where
+  pub from : base ≤ j
+  pub inside : j < length sets
+  pub below : getD sets j 0 < 2 ^ 32
+  pub sized : size (getD sets j 0) ≡ k
+  pub room : cell + (j - base) * k + k ≤ length cells
+  pub hops : (t : ℕ) → holds (getD sets j 0) t ≡ 1 → Hops sets j t (base + getD cells (cell + (j - base) * k + rank (getD sets j 0) t) 0 - 1)
+
+-- a step from inner row j: r is on the stride, and what it passes on the stride overlaps X
+pub record Onward (sets : List ℕ) (X j step r : ℕ) : Type 0 where
+  pub after : j < r
+  pub near : r ≤ length sets + step
+  pub on : (r - j) % step ≡ 0
+  pub passed : (p : ℕ) → j < p → p < r → (p - j) % step ≡ 0 → Disjoint X (getD sets p 0) → ⊥
+
+-- the rows of a span have their cells
+pub record SpanCells (sets cells : List ℕ) (base cell k : ℕ) (own : Span) : Type 0 where
+  pub some-step : 1 ≤ own .step
+  pub few-step : own .step ≤ few
+  pub inside : own .end ≤ length sets
+  pub few-rows : length sets ≤ few
+  pub rows : (p : ℕ) → own .from ≤ p → p < own .end → RowCells sets cells base cell k p
+
+-- r is the first row of the span that may be joined with X, or at its end
+pub record Along (g : Graph) (sets : List ℕ) (X : ℕ) (own : Span) (r : ℕ) : Type 0 where
+  pub clear : (p : ℕ) → inSpan own p ≡ true → p < r → isJoinable g X (getD sets p 0) ≡ false
+  pub found : r < own .end → (inSpan own r ≡ true) × (isJoinable g X (getD sets r 0) ≡ true)
+
+-- ---- places
+abbrev pub nowhere : ℕ → Place
+nowhere T = record { left = false; size = 0; row = 0; inner = 0; number = T }
+
+-- driving row i of size d, or the end of that size's driving rows; x candidates come before it
+pub record RowFrom (g : Graph) (s d i x : ℕ) : Type 0 where
+  pub two : 2 ≤ s
+  pub known : s ≤ tableCount g
+  pub from-one : 1 ≤ d
+  pub to-half : d ≤ s / 2 + 1
+  pub row-from : startOf g d ≤ i
+  pub row-to : i ≤ startOf g (d + 1)
+  pub ahead : x ≡ aheadOf g s d i
+
+-- the place is that of a candidate of size s
+pub record At (g : Graph) (s : ℕ) (p : Place) : Type 0 where
+  pub from-one : 1 ≤ p .size
+  pub to-half : p .size ≤ s / 2
+  pub row-from : startOf g (p .size) ≤ p .row
+  pub row-to : p .row < startOf g (p .size + 1)
+  pub inner-from : firstRow g s (p .size) (p .row) ≤ p .inner
+  pub inner-to : p .inner < endRow g s (p .size)
+  pub number : p .number ≡ aheadOf g s (p .size) (p .row) + (p .inner - firstRow g s (p .size) (p .row))
+
+-- "each with its own place": at the worker's next joinable pair, or nowhere
+pub record Waits (g : Graph) (s : ℕ) (h : Share) (p : Place) : Type 0 where
+  pub there : p .left ≡ true → At g s p × (ownAt g s h (p .number) ≡ true)
+  pub none : p .left ≡ false → p ≡ nowhere (length (met g s))
+
+-- the worker's next joinable pair among the candidates numbered x and on, or none
+pub record NextFrom (g : Graph) (s : ℕ) (h : Share) (x : ℕ) (p : Place) : Type 0 where
+  pub waits : Waits g s h p
+  pub ahead : x ≤ p .number
+  pub clear : (y : ℕ) → x ≤ y → y < p .number → ownAt g s h y ≡ false

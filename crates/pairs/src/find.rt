@@ -1,0 +1,159 @@
+// A worker's next joinable pair. Overlaps are jumped by the skip value of a table that both rows hold.
+ghost use mathlib.Core.Path.{_≡_};
+ghost use Prim.Native.Nat.{ℕ, _+_, _*_, _-_, _/_, _^_, _≤_, _<_};
+ghost use lib.ListN.{length, getD};
+ghost use Rattle.rules.specs.Sets.{holds, Lowest};
+ghost use Rattle.rules.specs.Query.{graphOf};
+ghost use Rattle.rules.specs.Checked.{GoodGraph};
+ghost use Rattle.pairs.specs.Shares.{few, ShareOf, Aligned};
+ghost use Rattle.pairs.specs.Places.{firstOf, Ground, Hops, RowCells, Onward, SpanCells, Along, RowFrom, NextFrom};
+ghost use Rattle.pairs.specs.Joinable.{isJoinable};
+use super::places::nowhere;
+use super::places::Place;
+use super::shares::span_of;
+use super::shares::Share;
+use super::shares::Span;
+use query::edges::edge_between;
+use sets::lowest_table;
+use sets::rank_of;
+
+// Whether two sets do not overlap and an edge runs between them.
+fn joinable(rows: &[u64], left: &[u64], right: &[u64], divisors: &[u64], x: u64, y: u64) -> bool
+    requires { ⌜ GoodGraph (graphOf (now rows) (now left) (now right) (now divisors)) ⌝ }
+    ensures { λ r. ⌜ r ≡ isJoinable (graphOf (now (rows .entry)) (now (left .entry)) (now (right .entry)) (now (divisors .entry))) x y ⌝ }
+{
+    if x & y != 0 {
+        return false;
+    }
+    edge_between(rows, left, right, divisors, x, y)
+}
+
+// The first inner row of driving row `row` of size `size`.
+fn first_of(starts: &[usize], s: usize, size: usize, row: usize) -> usize
+    requires { ⌜ (size ≤ s) × (s - size < length (now starts)) × (row ≤ few) × (s ≤ few) ⌝ }
+    ensures { λ r. ⌜ r ≡ firstOf (now (starts .entry)) s size row ⌝ }
+{
+    if size + size == s {
+        return row + 1;
+    }
+    starts[s - size]
+}
+
+// Past the row `inner` of size `wide` to the next row that lacks the lowest table of `both`, which the row holds; `base` is the size's
+// first row and `cell` its first skip cell.
+fn hop(sets: &[u64], skips: &[u64], base: usize, cell: usize, wide: usize, inner: usize, both: u64) -> usize
+    requires { ⌜ RowCells (now sets) (now skips) base cell wide inner ⌝ }
+    requires { ⌜ (0 < both) × ((t : ℕ) → holds both t ≡ 1 → holds (getD (now sets) inner 0) t ≡ 1) ⌝ }
+    ensures { λ r. ⌜ ((t : ℕ) → Lowest both t → Hops (now (sets .entry)) inner t r) ⌝ }
+{
+    let t = lowest_table(both);
+    let rank = rank_of(sets[inner], t) as usize;
+    let next = skips[cell + (inner - base) * wide + rank] as usize;
+    base + next - 1
+}
+
+// The first of inner, inner + step, .. that is not before `to`.
+fn aligned(inner: usize, to: usize, step: usize) -> usize
+    requires { ⌜ (inner < to) × (to ≤ few) × (1 ≤ step) × (step ≤ few) ⌝ }
+    ensures { λ r. ⌜ Aligned inner to step r ⌝ }
+{
+    if step == 1 {
+        return to;
+    }
+    if to <= inner + step {
+        return inner + step;
+    }
+    inner + (to - inner + step - 1) / step * step
+}
+
+// The next inner row of a worker's stride after `inner`; rows that overlap `x` as `inner` does are jumped.
+fn onward(sets: &[u64], skips: &[u64], base: usize, cell: usize, wide: usize, x: u64, inner: usize, step: usize) -> usize
+    requires { ⌜ RowCells (now sets) (now skips) base cell wide inner ⌝ }
+    requires { ⌜ (1 ≤ step) × (step ≤ few) × (length (now sets) ≤ few) ⌝ }
+    ensures { λ r. ⌜ Onward (now (sets .entry)) x inner step r ⌝ }
+{
+    let both = x & sets[inner];
+    if both == 0 {
+        return inner + step;
+    }
+    aligned(inner, hop(sets, skips, base, cell, wide, inner, both), step)
+}
+
+// The first row of a span that may be joined with `x`, or one not before its end.
+pub fn along(rows: &[u64], left: &[u64], right: &[u64], divisors: &[u64], sets: &[u64], skips: &[u64], base: usize, cell: usize, wide: usize, x: u64, own: Span) -> usize
+    requires { ⌜ GoodGraph (graphOf (now rows) (now left) (now right) (now divisors)) ⌝ }
+    requires { ⌜ SpanCells (now sets) (now skips) base cell wide own ⌝ }
+    ensures { λ r. ⌜ Along (graphOf (now (rows .entry)) (now (left .entry)) (now (right .entry)) (now (divisors .entry))) (now (sets .entry)) x own r ⌝ }
+{
+    let mut inner = own.from;
+    while inner < own.end {
+        if joinable(rows, left, right, divisors, x, sets[inner]) {
+            break;
+        }
+        inner = onward(sets, skips, base, cell, wide, x, inner, own.step);
+    }
+    inner
+}
+
+// From a driving row on, before which `ahead` candidates come, the worker's next joinable pair, or none: candidates are met smaller
+// size first, then driving row, then inner row.
+pub fn find(
+    rows: &[u64],
+    left: &[u64],
+    right: &[u64],
+    divisors: &[u64],
+    sets: &[u64],
+    skips: &[u64],
+    starts: &[usize],
+    cells: &[usize],
+    s: usize,
+    share: Share,
+    size: usize,
+    row: usize,
+    ahead: usize,
+) -> Place
+    requires { ⌜ GoodGraph (graphOf (now rows) (now left) (now right) (now divisors)) ⌝ }
+    requires { ⌜ Ground (graphOf (now rows) (now left) (now right) (now divisors)) (now sets) (now skips) (now starts) (now cells) ⌝ }
+    requires { ⌜ ShareOf (graphOf (now rows) (now left) (now right) (now divisors)) s share ⌝ }
+    requires { ⌜ RowFrom (graphOf (now rows) (now left) (now right) (now divisors)) s size row ahead ⌝ }
+    ensures { λ r. ⌜ NextFrom (graphOf (now (rows .entry)) (now (left .entry)) (now (right .entry)) (now (divisors .entry))) s share ahead r ⌝ }
+{
+    let half = s / 2;
+    let mut d = size;
+    let mut i = row;
+    let mut j = 0usize;
+    let mut number = ahead;
+    'find: while d <= half {
+        let base = starts[s - d];
+        let end = starts[s - d + 1];
+        let rows_from = starts[d];
+        let rows_to = starts[d + 1];
+        let cell = cells[s - d];
+        while i < rows_to {
+            let x = sets[i];
+            let first = first_of(starts, s, d, i);
+            let own = span_of(share, number, rows_to - rows_from, i - rows_from, first, end);
+            j = own.from;
+            while j < own.end {
+                if joinable(rows, left, right, divisors, x, sets[j]) {
+                    break 'find;
+                }
+                j = onward(sets, skips, base, cell, s - d, x, j, own.step);
+            }
+            number += end - first;
+            i += 1;
+        }
+        d += 1;
+    }
+    if half < d {
+        return nowhere(share.total);
+    }
+    Place {
+        left: true,
+        size: d,
+        row: i,
+        inner: j,
+        number: number + (j - first_of(starts, s, d, i)),
+    }
+}
+

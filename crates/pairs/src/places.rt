@@ -1,0 +1,25 @@
+// Places among the candidates of a size: a driving row and an inner row, both as rows of the memo.
+ghost use mathlib.Core.Path.{_≡_};
+ghost use Rattle.pairs.specs.Places.{nowhere};
+
+// Where a worker stands: at its next joinable pair, or, with none left, at the end of the size's candidates.
+pub struct Place {
+    pub left: bool,
+    pub size: usize,
+    pub row: usize,
+    pub inner: usize,
+    pub number: usize,
+}
+
+// With no pair left, of `total` candidates.
+pub fn nowhere(total: usize) -> Place
+    ensures { λ r. ⌜ r ≡ nowhere total ⌝ }
+{
+    Place {
+        left: false,
+        size: 0,
+        row: 0,
+        inner: 0,
+        number: total,
+    }
+}

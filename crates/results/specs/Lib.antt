@@ -1,0 +1,2 @@
+-- What a pair offers, what a row keeps, and the laws that the proofs cite.
+pub mod Prices
