@@ -40,17 +40,31 @@ pub fn lay_zeros(count: usize, out: &mut [u64])
     }
 }
 
-// Writes where the rows of each size begin: into cell k, how many rows have sizes below k.
-pub fn lay_starts(rows: &[u64], left: &[u64], right: &[u64], divisors: &[u64], out: &mut [u64])
+// Writes where the rows and the skip cells of each size begin: into cell k, how many rows and how many cells have sizes below k.
+pub fn lay_starts(
+    rows: &[u64],
+    left: &[u64],
+    right: &[u64],
+    divisors: &[u64],
+    starts: &mut [usize],
+    cells: &mut [usize],
+)
     requires { ⌜ GoodGraph (graphOf (now rows) (now left) (now right) (now divisors)) ⌝ }
-    requires { ⌜ length (now rows) + 2 ≤ length (now out) ⌝ }
-    ensures { λ _. ⌜ now (out .exit) ≡ written (now (out .entry)) 0 (starts (graphOf (now (rows .entry)) (now (left .entry)) (now (right .entry)) (now (divisors .entry)))) ⌝ }
+    requires { ⌜ (length (now rows) + 2 ≤ length (now starts)) × (length (now rows) + 2 ≤ length (now cells)) ⌝ }
+    ensures rows { λ _. ⌜ now (starts .exit) ≡ written (now (starts .entry)) 0 (starts (graphOf (now (rows .entry)) (now (left .entry)) (now (right .entry)) (now (divisors .entry)))) ⌝ }
+    ensures cells { λ _. ⌜ now (cells .exit) ≡ written (now (cells .entry)) 0 (cellStarts (graphOf (now (rows .entry)) (now (left .entry)) (now (right .entry)) (now (divisors .entry)))) ⌝ }
 {
-    let mut count = 0;
+    let mut row = 0usize;
+    let mut cell = 0usize;
     for k in 0..rows.len() {
-        out[k + 1] = count;
-        count += count_size(rows, left, right, divisors, k as u64 + 1) as u64;
+        starts[k + 1] = row;
+        cells[k + 1] = cell;
+        let count = count_size(rows, left, right, divisors, k as u64 + 1);
+        row += count;
+        cell += count * (k + 1);
     }
-    out[rows.len() + 1] = count;
-    out[0] = 0;
+    starts[rows.len() + 1] = row;
+    cells[rows.len() + 1] = cell;
+    starts[0] = 0;
+    cells[0] = 0;
 }

@@ -150,3 +150,22 @@ pub record NextFrom (g : Graph) (s : ℕ) (h : Share) (x : ℕ) (p : Place) : Ty
   pub waits : Waits g s h p
   pub ahead : x ≤ p .number
   pub clear : (y : ℕ) → x ≤ y → y < p .number → ownAt g s h y ≡ false
+
+-- ---- how many candidates there are
+-- how many rows a size has
+abbrev pub rowsIn : List ℕ → ℕ → ℕ
+rowsIn starts k = getD starts (k + 1) 0 - getD starts k 0
+
+-- sizes begin one after another, and none has too many rows
+pub record SizesFit (starts : List ℕ) (s : ℕ) : Type 0 where
+  pub forward : (k : ℕ) → 1 ≤ k → k < s → getD starts k 0 ≤ getD starts (k + 1) 0
+  pub fits : (k : ℕ) → 1 ≤ k → k < s → rowsIn starts k ≤ 65536
+
+-- the candidates with driving size d
+abbrev pub countAt : List ℕ → ℕ → ℕ → ℕ
+countAt starts s d = cond (eqb (d + d) s) (rowsIn starts d * (rowsIn starts d - 1) / 2) (rowsIn starts d * rowsIn starts (s - d))
+
+-- with the driving sizes 1 to d
+unfoldable pub countTo : List ℕ → ℕ → ℕ → ℕ
+countTo starts s zero = 0
+countTo starts s (suc d) = countTo starts s d + countAt starts s (suc d)

@@ -1,16 +1,19 @@
 // A worker's next joinable pair. Overlaps are jumped by the skip value of a table that both rows hold.
 ghost use mathlib.Core.Path.{_≡_};
+ghost use mathlib.Core.Bool.{true};
 ghost use Prim.Native.Nat.{ℕ, _+_, _*_, _-_, _/_, _^_, _≤_, _<_};
 ghost use lib.ListN.{length, getD};
+ghost use Rattle.rules.specs.Limits.{maxTables};
 ghost use Rattle.rules.specs.Sets.{holds, Lowest};
 ghost use Rattle.rules.specs.Query.{graphOf};
 ghost use Rattle.rules.specs.Checked.{GoodGraph};
 ghost use Rattle.pairs.specs.Shares.{few, ShareOf, Aligned};
-ghost use Rattle.pairs.specs.Places.{firstOf, Ground, Hops, RowCells, Onward, SpanCells, Along, RowFrom, NextFrom};
+ghost use Rattle.pairs.specs.Places.{firstOf, Ground, Hops, RowCells, Onward, SpanCells, Along, RowFrom, At, NextFrom, ownAt, SizesFit, countTo};
 ghost use Rattle.pairs.specs.Joinable.{isJoinable};
 use super::places::nowhere;
 use super::places::Place;
 use super::shares::span_of;
+use super::shares::span_on;
 use super::shares::Share;
 use super::shares::Span;
 use query::edges::edge_between;
@@ -157,3 +160,83 @@ pub fn find(
     }
 }
 
+
+// The worker's first joinable pair of a size, or none.
+pub fn first_pair(
+    rows: &[u64],
+    left: &[u64],
+    right: &[u64],
+    divisors: &[u64],
+    sets: &[u64],
+    skips: &[u64],
+    starts: &[usize],
+    cells: &[usize],
+    s: usize,
+    share: Share,
+) -> Place
+    requires { ⌜ GoodGraph (graphOf (now rows) (now left) (now right) (now divisors)) ⌝ }
+    requires { ⌜ Ground (graphOf (now rows) (now left) (now right) (now divisors)) (now sets) (now skips) (now starts) (now cells) ⌝ }
+    requires { ⌜ ShareOf (graphOf (now rows) (now left) (now right) (now divisors)) s share × (2 ≤ s) × (s ≤ length (now rows)) ⌝ }
+    ensures { λ r. ⌜ NextFrom (graphOf (now (rows .entry)) (now (left .entry)) (now (right .entry)) (now (divisors .entry))) s share 0 r ⌝ }
+{
+    find(rows, left, right, divisors, sets, skips, starts, cells, s, share, 1, starts[1], 0)
+}
+
+// The worker's next joinable pair after the one at `place`, or none: in its driving row first.
+pub fn next_pair(
+    rows: &[u64],
+    left: &[u64],
+    right: &[u64],
+    divisors: &[u64],
+    sets: &[u64],
+    skips: &[u64],
+    starts: &[usize],
+    cells: &[usize],
+    s: usize,
+    share: Share,
+    place: Place,
+) -> Place
+    requires { ⌜ GoodGraph (graphOf (now rows) (now left) (now right) (now divisors)) ⌝ }
+    requires { ⌜ Ground (graphOf (now rows) (now left) (now right) (now divisors)) (now sets) (now skips) (now starts) (now cells) ⌝ }
+    requires { ⌜ ShareOf (graphOf (now rows) (now left) (now right) (now divisors)) s share × (2 ≤ s) × (s ≤ length (now rows)) ⌝ }
+    requires { ⌜ At (graphOf (now rows) (now left) (now right) (now divisors)) s place × (ownAt (graphOf (now rows) (now left) (now right) (now divisors)) s share (place .number) ≡ true) ⌝ }
+    ensures { λ r. ⌜ NextFrom (graphOf (now (rows .entry)) (now (left .entry)) (now (right .entry)) (now (divisors .entry))) s share (place .number + 1) r ⌝ }
+{
+    let d = place.size;
+    let i = place.row;
+    let j = place.inner;
+    let number = place.number;
+    let wide = s - d;
+    let end = starts[wide + 1];
+    let own = span_on(share, number, j, end);
+    let next = along(rows, left, right, divisors, sets, skips, starts[wide], cells[wide], wide, sets[i], own);
+    if next < own.end {
+        return Place {
+            left: true,
+            size: d,
+            row: i,
+            inner: next,
+            number: number + (next - j),
+        };
+    }
+    find(rows, left, right, divisors, sets, skips, starts, cells, s, share, d, i + 1, number + (end - j))
+}
+
+// How many candidates a size has.
+pub fn count_candidates(starts: &[usize], s: usize) -> usize
+    requires { ⌜ (2 ≤ s) × (s < length (now starts)) × (s ≤ maxTables) × SizesFit (now starts) s ⌝ }
+    ensures { λ r. ⌜ r ≡ countTo (now (starts .entry)) s (s / 2) ⌝ }
+{
+    let mut count = 0usize;
+    for k in 0..s / 2 {
+        let d = k + 1;
+        let driving = starts[d + 1] - starts[d];
+        let inner = starts[s - d + 1] - starts[s - d];
+        if d + d == s {
+            count += driving * (driving - 1) / 2;
+        } else {
+            count += driving * inner;
+        }
+    }
+    count
+}

@@ -1,0 +1,136 @@
+// "A turn hands its worker that worker's next joinable pair; with none left it changes nothing."
+use pairs::find::next_pair;
+use pairs::places::Place;
+use pairs::shares::Share;
+use results::keep::keep;
+use results::price::price;
+use results::seek::seek;
+
+// A worker of the table: its share of the size, its place, the memo row of its last result, how many pairs it was handed.
+pub struct Worker {
+    pub share: Share,
+    pub place: Place,
+    pub last: usize,
+    pub handed: u64,
+}
+
+// The pair that a turn handed and the cost in its result's row after the turn, or none and zeros.
+pub struct Handed {
+    pub found: bool,
+    pub driving: u64,
+    pub inner: u64,
+    pub cost: u64,
+}
+
+// One worker after its turn, and the pair handed.
+pub struct Stepped {
+    pub worker: Worker,
+    pub pair: Handed,
+}
+
+// All workers after a turn, and the pair handed.
+pub struct Turned {
+    pub workers: [Worker; 8],
+    pub pair: Handed,
+}
+
+pub fn step(
+    rows: &[u64],
+    left: &[u64],
+    right: &[u64],
+    divisors: &[u64],
+    fixed: &[u64],
+    outer: &[u64],
+    inner: &[u64],
+    result: &[u64],
+    sets: &[u64],
+    estimates: &[u64],
+    costs: &mut [u64],
+    outers: &mut [u64],
+    methods: &mut [u64],
+    skips: &[u64],
+    starts: &[usize],
+    cells: &[usize],
+    s: usize,
+    worker: Worker,
+) -> Stepped {
+    let place = worker.place;
+    if !place.left {
+        return Stepped {
+            worker: worker,
+            pair: Handed {
+                found: false,
+                driving: 0,
+                inner: 0,
+                cost: 0,
+            },
+        };
+    }
+    let i = place.row;
+    let j = place.inner;
+    let x = sets[i];
+    let y = sets[j];
+    let row = seek(sets, starts[s], starts[s + 1], worker.last, x + y);
+    let choice = price(
+        fixed,
+        outer,
+        inner,
+        result,
+        x,
+        y,
+        estimates[i],
+        estimates[j],
+        estimates[row],
+        costs[i] + costs[j],
+    );
+    let cost = keep(costs, outers, methods, row, choice);
+    let next = next_pair(rows, left, right, divisors, sets, skips, starts, cells, s, worker.share, place);
+    Stepped {
+        worker: Worker {
+            share: worker.share,
+            place: next,
+            last: row,
+            handed: worker.handed + 1,
+        },
+        pair: Handed {
+            found: true,
+            driving: x,
+            inner: y,
+            cost: cost,
+        },
+    }
+}
+
+pub fn turn(
+    rows: &[u64],
+    left: &[u64],
+    right: &[u64],
+    divisors: &[u64],
+    fixed: &[u64],
+    outer: &[u64],
+    inner: &[u64],
+    result: &[u64],
+    sets: &[u64],
+    estimates: &[u64],
+    costs: &mut [u64],
+    outers: &mut [u64],
+    methods: &mut [u64],
+    skips: &[u64],
+    starts: &[usize],
+    cells: &[usize],
+    s: usize,
+    workers: [Worker; 8],
+    w: usize,
+) -> Turned {
+    let worker = workers[w];
+    let stepped = step(
+        rows, left, right, divisors, fixed, outer, inner, result, sets, estimates, costs, outers, methods, skips, starts, cells, s,
+        worker,
+    );
+    let mut next = workers;
+    next[w] = stepped.worker;
+    Turned {
+        workers: next,
+        pair: stepped.pair,
+    }
+}
