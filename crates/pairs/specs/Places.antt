@@ -84,13 +84,14 @@ pub record Ground (g : Graph) (sets cells starts cellStarts : List ℕ) : Type 0
 -- r is after row j, and the rows from j to r all hold table t
 pub record Hops (sets : List ℕ) (j t r : ℕ) : Type 0 where
   pub after : j < r
-  pub inside : r ≤ length sets
+  pub inside : r ≤ few
   pub held : (p : ℕ) → j ≤ p → p < r → holds (getD sets p 0) t ≡ 1
 
 -- row j of a size of k tables whose first row is base and whose first cell is cell: its cells hold where to go on
 pub record RowCells (sets cells : List ℕ) (base cell k j : ℕ) : Type 0 where
   pub from : base ≤ j
   pub inside : j < length sets
+  pub early : j < few
   pub below : getD sets j 0 < 2 ^ 32
   pub sized : size (getD sets j 0) ≡ k
   pub room : cell + (j - base) * k + k ≤ length cells
@@ -99,7 +100,7 @@ pub record RowCells (sets cells : List ℕ) (base cell k j : ℕ) : Type 0 where
 -- a step from inner row j: r is on the stride, and what it passes on the stride overlaps X
 pub record Onward (sets : List ℕ) (X j step r : ℕ) : Type 0 where
   pub after : j < r
-  pub near : r ≤ length sets + step
+  pub near : r ≤ few + step
   pub on : (r - j) % step ≡ 0
   pub passed : (p : ℕ) → j < p → p < r → (p - j) % step ≡ 0 → Disjoint X (getD sets p 0) → ⊥
 
@@ -108,7 +109,6 @@ pub record SpanCells (sets cells : List ℕ) (base cell k : ℕ) (own : Span) : 
   pub some-step : 1 ≤ own .step
   pub few-step : own .step ≤ few
   pub inside : own .end ≤ length sets
-  pub few-rows : length sets ≤ few
   pub rows : (p : ℕ) → own .from ≤ p → p < own .end → RowCells sets cells base cell k p
 
 -- r is the first row of the span that may be joined with X, or at its end

@@ -72,7 +72,7 @@ fn aligned(inner: usize, to: usize, step: usize) -> usize
 // The next inner row of a worker's stride after `inner`; rows that overlap `x` as `inner` does are jumped.
 fn onward(sets: &[u64], skips: &[u64], base: usize, cell: usize, wide: usize, x: u64, inner: usize, step: usize) -> usize
     requires { ⌜ RowCells (now sets) (now skips) base cell wide inner ⌝ }
-    requires { ⌜ (1 ≤ step) × (step ≤ few) × (length (now sets) ≤ few) ⌝ }
+    requires { ⌜ (1 ≤ step) × (step ≤ few) ⌝ }
     ensures { λ r. ⌜ Onward (now (sets .entry)) x inner step r ⌝ }
 {
     let both = x & sets[inner];
