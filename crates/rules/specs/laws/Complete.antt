@@ -26,7 +26,7 @@ use Rattle.rules.specs.laws.Sets.{splits-size, size-pos, holds-apart, ho
 use Rattle.rules.specs.laws.Connected.{joinable-sym}
 use Rattle.rules.specs.laws.Decide.{between?}
 use Rattle.rules.specs.laws.Rows.{rows-all, rows-only, rows-once}
-use Rattle.rules.specs.laws.Handed.{JoinablePair, Complete}
+use Rattle.rules.specs.laws.Handed.{JoinablePair, among, Complete}
 use Rattle.rules.specs.laws.Shares.{One, owns-one}
 use Rattle.rules.specs.laws.Candidates.{Has, candidates-all, met-of, numbered-in, numbered-of, numbered-length, numbered-once, SameSets, candidates-apart, numbered-pair}
 use Rattle.rules.specs.laws.Turns.{Entries, Below, run-below, run-queues, counts-sum, sum-same}
@@ -40,7 +40,7 @@ joinable-true g c e = record {
   between = yes-true (between? g (c .driving) (c .inner)) (and-true-r (eqb (bitAnd (c .driving) (c .inner)) 0) (isYes (between? g (c .driving) (c .inner))) e);
 }
 
-true-joinable : (g : Graph) (c : Candidate) → Joinable g (c .driving) (c .inner) → joinable g c ≡ true
+pub true-joinable : (g : Graph) (c : Candidate) → Joinable g (c .driving) (c .inner) → joinable g c ≡ true
 unfolding joinable
 true-joinable g c j =
     and-true (eqb (bitAnd (c .driving) (c .inner)) 0) (isYes (between? g (c .driving) (c .inner))) (eq-eqb (bitAnd (c .driving) (c .inner)) 0 (j .apart))
@@ -51,6 +51,35 @@ pub pair-once : (g : Graph) (s : ℕ) (x y : Numbered) → List·Memᴰ x (met g
 unfolding met candidates
 pair-once g s x y m n p =
     numbered-pair 0 (candidates g s) (candidates-apart (rowsOf g) s (rows-once g) (λ j k Z a b. sym (rows-only g j Z a .1) ∙ rows-only g k Z b .1)) x y m n p
+
+-- a candidate that is met and joinable is a joinable pair of connected sets
+pub met-joinable : (g : Graph) (s : ℕ) (x : Numbered) → List·Memᴰ x (met g s) → joinable g (x .candidate) ≡ true → JoinablePair g (record { driving = x .candidate .driving; inner = x .candidate .inner })
+unfolding met candidates
+met-joinable g s x i j =
+    let c = x .candidate in
+    let b = met-of (rowsOf g) s c (numbered-of 0 (candidatesOf (rowsOf g) s) x i .0) in
+    record {
+      driving-conn = rows-only g (b .size) (c .driving) (b .behind .driving) .0;
+      inner-conn = rows-only g (s - b .size) (c .inner) (b .behind .inner) .0;
+      joinable = joinable-true g c j;
+    }
+
+apart-differ : (X Y : ℕ) → 0 < X → Disjoint X Y → X ≡ Y → ⊥
+apart-differ X Y l d e =
+    let a = holds-some X l in
+    omega (arith, holds-apart X Y (a .0) d, a .1, ap (λ (z : ℕ). holds z (a .0)) e)
+
+-- a joinable pair of s tables is met, one way round
+pub pair-met : (g : Graph) (s : ℕ) (p : Pair) → JoinablePair g p → size (union p) ≡ s → Has (p .driving) (p .inner) (candidates g s) ⊎ Has (p .inner) (p .driving) (candidates g s)
+unfolding candidates
+pair-met g s p j e =
+    let X = p .driving in
+    let Y = p .inner in
+    let cx = j .driving-conn in
+    let cy = j .inner-conn in
+    let sp : Splits (X + Y) X Y = record { apart = j .joinable .apart; whole = refl } in
+    candidates-all (rowsOf g) s (size X) (size Y) X Y (size-pos X (cx .some)) (size-pos Y (cy .some)) (sym (splits-size sp) ∙ e) (rows-all g X cx) (rows-all g Y cy)
+    (apart-differ X Y (cx .some) (j .joinable .apart))
 
 -- ---- the turns of result size s
 module _ (g : Graph) (scheme : Scheme) (m s : ℕ) where
@@ -145,27 +174,12 @@ module _ (g : Graph) (scheme : Scheme) (m s : ℕ) where
           inner = sym (ap (λ (x : Numbered). x .candidate .inner) (found .candidate) ∙ eY) i;
         }
 
-    -- each pair handed is joinable, and its two sets make s tables
+    -- each pair handed is joinable
     pub joinable-of : (x : Hand Numbered) → List·Memᴰ x h → JoinablePair g (pairOf x)
-    unfolding met candidates
-    joinable-of x i =
-        let r = hands-only x i in
-        let c = x .candidate .candidate in
-        let b = met-of (rowsOf g) s c (numbered-of 0 (candidatesOf (rowsOf g) s) (x .candidate) (r .0) .0) in
-        record {
-          driving-conn = rows-only g (b .size) (c .driving) (b .behind .driving) .0;
-          inner-conn = rows-only g (s - b .size) (c .inner) (b .behind .inner) .0;
-          joinable = joinable-true g c (r .2);
-        }
-
-    apart-differ : (X Y : ℕ) → 0 < X → Disjoint X Y → X ≡ Y → ⊥
-    apart-differ X Y l d e =
-        let a = holds-some X l in
-        omega (arith, holds-apart X Y (a .0) d, a .1, ap (λ (z : ℕ). holds z (a .0)) e)
+    joinable-of x i = let r = hands-only x i in met-joinable g s (x .candidate) (r .0) (r .2)
 
     -- THE SIZE IS COMPLETE: all pairs of each set of s tables, one way round, and no other
-    pub size-complete : (S : ℕ) → size S ≡ s → Complete g (map pairOf h) S
-    unfolding candidates
+    pub size-complete : (S : ℕ) → size S ≡ s → Complete g (among (map pairOf h)) S
     size-complete S e = record { sound = sound; total = total }
       where
         sound : (p : Pair) → List·Memᴰ p (map pairOf h) → union p ≡ S → JoinablePair g p
@@ -173,14 +187,7 @@ module _ (g : Graph) (scheme : Scheme) (m s : ℕ) where
 
         total : (p : Pair) → JoinablePair g p → union p ≡ S → List·Memᴰ p (map pairOf h) ⊎ List·Memᴰ (record { driving = p .inner; inner = p .driving }) (map pairOf h)
         total p j w =
-            let X = p .driving in
-            let Y = p .inner in
-            let cx = j .driving-conn in
-            let cy = j .inner-conn in
-            let sp : Splits S X Y = record { apart = j .joinable .apart; whole = w } in
-            ⊎-elim (λ a. inl (handed-of X Y (j .joinable) a)) (λ a. inr (handed-of Y X (joinable-sym (j .joinable)) a))
-            (candidates-all (rowsOf g) s (size X) (size Y) X Y (size-pos X (cx .some)) (size-pos Y (cy .some)) (sym (splits-size sp) ∙ e) (rows-all g X cx) (rows-all g Y cy)
-            (apart-differ X Y (cx .some) (j .joinable .apart)))
+            ⊎-elim (λ a. inl (handed-of (p .driving) (p .inner) (j .joinable) a)) (λ a. inr (handed-of (p .inner) (p .driving) (joinable-sym (j .joinable)) a)) (pair-met g s p j (ap size w ∙ e))
 
 -- ---- all sizes, one after another
 entries-left : {C : Type 0} {m : ℕ} {qs : ℕ → List C} {ts : List ℕ} {h : List (Hand C)} {u : List ℕ} → Run m qs ts h u → Entries m ts → Entries m u
@@ -237,5 +244,5 @@ module _ (g : Graph) (scheme : Scheme) (m : ℕ) (workers : 0 < m) where
     plan-joinable p i = let o = Memᴰ·of-map pairOf h i in rw (o .2) at (sizes-joinable 2 (tableCount g - 1) ts h t z (o .0) (o .1))
 
     -- FROM THE TURNS IN A ROW: all pairs of each set of 2 to N tables, whatever the workers, the scheme and the turns
-    pub plan-complete : (S : ℕ) → 2 ≤ size S → size S ≤ tableCount g → Complete g (map pairOf h) S
+    pub plan-complete : (S : ℕ) → 2 ≤ size S → size S ≤ tableCount g → Complete g (among (map pairOf h)) S
     plan-complete S l u = record { sound = λ p i w. plan-joinable p i; total = λ p j w. sizes-total 2 (tableCount g - 1) ts h t z S l (omega arith) p j w }

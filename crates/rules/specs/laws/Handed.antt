@@ -1,7 +1,7 @@
 -- A memo row while its pairs are handed, in any order: the best of the choices handed so far. Only which pairs were handed counts.
 use mathlib.Core.Path.{_≡_, refl, sym, ap, _∙_}
 use mathlib.Core.Logic.{_⊎_, inl, inr, ⊎-elim}
-use mathlib.Core.List.{List, [], _∷_, _++_, List·Memᴰ, List·Memᴰ·head, List·Memᴰ·append-cases, List·Memᴰ·eq-of-singleton, Memᴰ·append-left, Memᴰ·append-right}
+use mathlib.Core.List.{List, List·Memᴰ}
 use Prim.Native.Nat.{ℕ, _+_}
 use native.Mathlib.Nat.{add-comm, le-antisymm}
 use Rattle.rules.specs.laws.Choice.{Choice, NoLater, Best, Either, best-same, best-keep, best-take, best-unique}
@@ -18,10 +18,18 @@ pub record JoinablePair (g : Graph) (p : Pair) : Type 0 where
   pub inner-conn : Connected g (p .inner)
   pub joinable : Joinable g (p .driving) (p .inner)
 
--- all pairs of S are handed, each one way round
-pub record Complete (g : Graph) (h : List Pair) (S : ℕ) : Type 0 where
-  pub sound : (p : Pair) → List·Memᴰ p h → union p ≡ S → JoinablePair g p
-  pub total : (p : Pair) → JoinablePair g p → union p ≡ S → List·Memᴰ p h ⊎ List·Memᴰ (record { driving = p .inner; inner = p .driving }) h
+-- the pairs of a list
+abbrev pub among : List Pair → Pair → Type 0
+among h p = List·Memᴰ p h
+
+-- the pairs P and one more
+abbrev pub With : (Pair → Type 0) → Pair → Pair → Type 0
+With P p p′ = P p′ ⊎ (p′ ≡ p)
+
+-- the pairs P are those of S, each one way round
+pub record Complete (g : Graph) (P : Pair → Type 0) (S : ℕ) : Type 0 where
+  pub sound : (p : Pair) → P p → union p ≡ S → JoinablePair g p
+  pub total : (p : Pair) → JoinablePair g p → union p ≡ S → P p ⊎ P (record { driving = p .inner; inner = p .driving })
 
 module _ (q : Query) (best : ℕ → ℕ) where
   -- k is the join of outer X and inner Y by some method
@@ -34,49 +42,56 @@ module _ (q : Query) (best : ℕ → ℕ) where
   unfoldable pub Offers : Pair → Choice → Type 0
   Offers p k = Priced (p .driving) (p .inner) k ⊎ Priced (p .inner) (p .driving) k
 
-  -- k was priced for S by a pair handed so far
-  pub record Handed (h : List Pair) (S : ℕ) (k : Choice) : Type 0 where
+  -- k was priced for S by one of the pairs P, those handed so far
+  pub record Handed (P : Pair → Type 0) (S : ℕ) (k : Choice) : Type 0 where
     pub pair : Pair
-    pub handed : List·Memᴰ pair h
+    pub handed : P pair
     pub whole : union pair ≡ S
     pub prices : Offers pair k
 
-  -- the row of S after one more pair, whose result it is
-  module _ (h : List Pair) (p : Pair) where
-    to : (k : Choice) → Either (Handed h (union p)) (Offers p) k → Handed (h ++ p ∷ []) (union p) k
-    to k (inl o) = record { pair = o .pair; handed = Memᴰ·append-left (p ∷ []) (o .handed); whole = o .whole; prices = o .prices }
-    to k (inr o) = record { pair = p; handed = Memᴰ·append-right h (List·Memᴰ·head refl); whole = refl; prices = o }
+  -- only which pairs were handed counts
+  pub handed-same : {P Q : Pair → Type 0} {S : ℕ} {k : Choice} → ((p : Pair) → P p → Q p) → ((p : Pair) → Q p → P p) → Best (Handed P S) k → Best (Handed Q S) k
+  handed-same {P} {Q} {S} to from b = best-same (move to) (move from) b
+    where
+      move : {P Q : Pair → Type 0} → ((p : Pair) → P p → Q p) → (k : Choice) → Handed P S k → Handed Q S k
+      move f k o = record { pair = o .pair; handed = f (o .pair) (o .handed); whole = o .whole; prices = o .prices }
 
-    from : (k : Choice) → Handed (h ++ p ∷ []) (union p) k → Either (Handed h (union p)) (Offers p) k
-    from k o = pick (List·Memᴰ·append-cases h (o .handed))
+  -- the row of S after one more pair, whose result it is
+  module _ (P : Pair → Type 0) (p : Pair) where
+    to : (k : Choice) → Either (Handed P (union p)) (Offers p) k → Handed (With P p) (union p) k
+    to k (inl o) = record { pair = o .pair; handed = inl (o .handed); whole = o .whole; prices = o .prices }
+    to k (inr o) = record { pair = p; handed = inr refl; whole = refl; prices = o }
+
+    from : (k : Choice) → Handed (With P p) (union p) k → Either (Handed P (union p)) (Offers p) k
+    from k o = pick (o .handed)
       where
-        pick : List·Memᴰ (o .pair) h ⊎ List·Memᴰ (o .pair) (p ∷ []) → Either (Handed h (union p)) (Offers p) k
+        pick : P (o .pair) ⊎ (o .pair ≡ p) → Either (Handed P (union p)) (Offers p) k
         pick (inl m) = inl (record { pair = o .pair; handed = m; whole = o .whole; prices = o .prices })
-        pick (inr m) = inr (rw (List·Memᴰ·eq-of-singleton m) at (o .prices))
+        pick (inr e) = inr (rw e at (o .prices))
 
     -- the first pair of its result
-    pub row-first : {b : Choice} → ((k : Choice) → Handed h (union p) k → ⊥) → Best (Offers p) b → Best (Handed (h ++ p ∷ []) (union p)) b
+    pub row-first : {b : Choice} → ((k : Choice) → Handed P (union p) k → ⊥) → Best (Offers p) b → Best (Handed (With P p) (union p)) b
     row-first {b} none n = record { among = to b (inr (n .among)); first = λ k o. ⊎-elim (λ x. absurd (none k x)) (n .first k) (from k o) }
 
-    pub row-keep : {a b : Choice} → Best (Handed h (union p)) a → Best (Offers p) b → NoLater a b → Best (Handed (h ++ p ∷ []) (union p)) a
+    pub row-keep : {a b : Choice} → Best (Handed P (union p)) a → Best (Offers p) b → NoLater a b → Best (Handed (With P p) (union p)) a
     row-keep r n le = best-same to from (best-keep r n le)
 
-    pub row-take : {a b : Choice} → Best (Handed h (union p)) a → Best (Offers p) b → NoLater b a → Best (Handed (h ++ p ∷ []) (union p)) b
+    pub row-take : {a b : Choice} → Best (Handed P (union p)) a → Best (Offers p) b → NoLater b a → Best (Handed (With P p) (union p)) b
     row-take r n le = best-same to from (best-take r n le)
 
     -- every other row stays
-    pub row-other : {S : ℕ} {a : Choice} → (union p ≡ S → ⊥) → Best (Handed h S) a → Best (Handed (h ++ p ∷ []) S) a
+    pub row-other : {S : ℕ} {a : Choice} → (union p ≡ S → ⊥) → Best (Handed P S) a → Best (Handed (With P p) S) a
     row-other {S} {a} ne r = best-same up down r
       where
-        up : (k : Choice) → Handed h S k → Handed (h ++ p ∷ []) S k
-        up k o = record { pair = o .pair; handed = Memᴰ·append-left (p ∷ []) (o .handed); whole = o .whole; prices = o .prices }
+        up : (k : Choice) → Handed P S k → Handed (With P p) S k
+        up k o = record { pair = o .pair; handed = inl (o .handed); whole = o .whole; prices = o .prices }
 
-        down : (k : Choice) → Handed (h ++ p ∷ []) S k → Handed h S k
-        down k o = pick (List·Memᴰ·append-cases h (o .handed))
+        down : (k : Choice) → Handed (With P p) S k → Handed P S k
+        down k o = pick (o .handed)
           where
-            pick : List·Memᴰ (o .pair) h ⊎ List·Memᴰ (o .pair) (p ∷ []) → Handed h S k
+            pick : P (o .pair) ⊎ (o .pair ≡ p) → Handed P S k
             pick (inl m) = record { pair = o .pair; handed = m; whole = o .whole; prices = o .prices }
-            pick (inr m) = absurd (ne (ap (λ (r : Pair). union r) (sym (List·Memᴰ·eq-of-singleton m)) ∙ o .whole))
+            pick (inr e) = absurd (ne (ap (λ (r : Pair). union r) (sym e) ∙ o .whole))
 
   -- a pair of S, priced with outer X and inner Y, is an offer
   offer-of : {S X Y : ℕ} {k : Choice} → Connected (q .graph) X → Connected (q .graph) Y → Joinable (q .graph) X Y → X + Y ≡ S → Priced X Y k → Offer q best S k
@@ -90,8 +105,8 @@ module _ (q : Query) (best : ℕ → ℕ) where
     costs = rw (p .outer) (p .costs);
   }
 
-  module _ (h : List Pair) (S : ℕ) (all : Complete (q .graph) h S) where
-    to-offer : (k : Choice) → Handed h S k → Offer q best S k
+  module _ (P : Pair → Type 0) (S : ℕ) (all : Complete (q .graph) P S) where
+    to-offer : (k : Choice) → Handed P S k → Offer q best S k
     unfolding Offers
     to-offer k o = pick (o .prices)
       where
@@ -108,21 +123,21 @@ module _ (q : Query) (best : ℕ → ℕ) where
         pick (inl d) = offer-of (j .driving-conn) (j .inner-conn) (j .joinable) (o .whole) d
         pick (inr d) = offer-of (j .inner-conn) (j .driving-conn) (joinable-sym (j .joinable)) (add-comm I D ∙ o .whole) d
 
-    from-offer : (k : Choice) → Offer q best S k → Handed h S k
+    from-offer : (k : Choice) → Offer q best S k → Handed P S k
     unfolding Offers
     from-offer k o = pick (all .total (record { driving = k .outer; inner = o .other }) (record { driving-conn = o .outer-conn; inner-conn = o .inner-conn; joinable = o .joinable }) (o .whole))
       where
-        pick : List·Memᴰ (record { driving = k .outer; inner = o .other }) h ⊎ List·Memᴰ (record { driving = o .other; inner = k .outer }) h → Handed h S k
+        pick : P (record { driving = k .outer; inner = o .other }) ⊎ P (record { driving = o .other; inner = k .outer }) → Handed P S k
         pick (inl m) = record { pair = _; handed = m; whole = o .whole; prices = inl (record { outer = refl; method = o .method; costs = o .costs }) }
         pick (inr m) = record { pair = _; handed = m; whole = add-comm (o .other) (k .outer) ∙ o .whole; prices = inr (record { outer = refl; method = o .method; costs = o .costs }) }
 
     -- ORDER INDEPENDENCE: once all pairs of S are handed, in whatever order, the row is the best over all splits of S
-    pub row-final : {k : Choice} → Best (Handed h S) k → Best (Offer q best S) k
+    pub row-final : {k : Choice} → Best (Handed P S) k → Best (Offer q best S) k
     row-final = best-same to-offer from-offer
 
   -- two complete runs leave the same row
-  pub rows-agree : {S : ℕ} {h h′ : List Pair} {k k′ : Choice} → Complete (q .graph) h S → Complete (q .graph) h′ S → Best (Handed h S) k → Best (Handed h′ S) k′ → k ≡ k′
-  rows-agree {S} {h} {h′} a a′ r r′ = best-unique (row-final h S a r) (row-final h′ S a′ r′)
+  pub rows-agree : {S : ℕ} {P P′ : Pair → Type 0} {k k′ : Choice} → Complete (q .graph) P S → Complete (q .graph) P′ S → Best (Handed P S) k → Best (Handed P′ S) k′ → k ≡ k′
+  rows-agree {S} {P} {P′} a a′ r r′ = best-unique (row-final P S a r) (row-final P′ S a′ r′)
 
   -- ---- the row's cost is the log's standing cost, where `best` holds the least costs of the pairs' parts
   module _ (h : List Pair) (parts : (p : Pair) → List·Memᴰ p h → Least q (p .driving) (best (p .driving)) × Least q (p .inner) (best (p .inner))) where
@@ -167,7 +182,7 @@ module _ (q : Query) (best : ℕ → ℕ) where
         pick (inl e) = inl (priced (p .driving) (p .inner) (parts p m .0) (parts p m .1) (e .0) (e .1))
         pick (inr e) = inr (priced (p .inner) (p .driving) (parts p m .1) (parts p m .0) (e .1) (e .0))
 
-    pub row-stands : {S : ℕ} {k : Choice} → Best (Handed h S) k → Stands q h S (k .cost)
+    pub row-stands : {S : ℕ} {k : Choice} → Best (Handed (among h) S) k → Stands q h S (k .cost)
     row-stands {S} {k} b = record {
       by = b .among .pair;
       handed = b .among .handed;

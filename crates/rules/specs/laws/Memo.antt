@@ -1,6 +1,5 @@
 -- The finished memo: one whose rows are, for one table, the scan, and for more, the best of all pairs handed in any order, holds for each connected set its least cost and the tie rule's pick.
 use mathlib.Core.Path.{_≡_, refl, ap}
-use mathlib.Core.List.{List}
 use Prim.Native.Nat.{ℕ, zero, suc, _-_, _≤_, _<_}
 use native.Mathlib.Nat.{le-refl}
 use native.Mathlib.Decide.{decLt}
@@ -29,17 +28,17 @@ one-least q t tab = record { tree = scan t; valid = tab; covers = refl; costs = 
     least (join x y m) v e =
         absurd (omega (arith, ap size e, size-pow (t - 1), size-sum (tablesOf x) (tablesOf y) (v .2 .apart), size-pos (tablesOf x) (tablesOf-pos x), size-pos (tablesOf y) (tablesOf-pos y)))
 
-module _ (q : Query) (best : ℕ → ℕ) (row : ℕ → Choice) (h : List Pair) where
+module _ (q : Query) (best : ℕ → ℕ) (row : ℕ → Choice) (P : Pair → Type 0) where
   -- what the turns leave: the rows of one table, and of more
   pub record Memo : Type 0 where
     pub one : (t : ℕ) → IsTable (q .graph) t → best (single t) ≡ at (q .scans) t
-    pub complete : (S : ℕ) → Connected (q .graph) S → 2 ≤ size S → Complete (q .graph) h S
-    pub best-row : (S : ℕ) → Connected (q .graph) S → 2 ≤ size S → Best (Handed q best h S) (row S)
+    pub complete : (S : ℕ) → Connected (q .graph) S → 2 ≤ size S → Complete (q .graph) P S
+    pub best-row : (S : ℕ) → Connected (q .graph) S → 2 ≤ size S → Best (Handed q best P S) (row S)
     pub cost-row : (S : ℕ) → Connected (q .graph) S → 2 ≤ size S → row S .cost ≡ best S
 
   module _ (me : IsMethod q 1) (memo : Memo) where
     best-offer : (S : ℕ) → Connected (q .graph) S → 2 ≤ size S → Best (Offer q best S) (row S)
-    best-offer S c two = row-final q best h S (memo .complete S c two) (memo .best-row S c two)
+    best-offer S c two = row-final q best P S (memo .complete S c two) (memo .best-row S c two)
 
     below : (n S : ℕ) → size S ≤ n → Connected (q .graph) S → Least q S (best S)
     below zero S l c = let o = one-table (q .graph) S (omega arith) c in rw (← o .2) (rw (memo .one (o .0) (o .1)) (one-least q (o .0) (o .1)))

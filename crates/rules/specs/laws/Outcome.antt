@@ -26,7 +26,7 @@ use Rattle.rules.specs.Shares.{Numbered, numbered, cut, inCut, owns, met
 use Rattle.rules.specs.Turns.{Hand, Sizes, only}
 use Rattle.rules.specs.Log.{Pair, pairOf, union, Stands}
 use Rattle.rules.specs.Refusals.{Input, refuse, firstBad, firstOf, allAre, allSame, groups, badTable, badMethod, joinedBelow, repeats, edgeOr, badEdge, isRefused, badTurn, checksOf, checks, rooms, verdict}
-use Rattle.rules.specs.Checked.{Accepted}
+use Rattle.rules.specs.Checked.{Sound, Accepted}
 use Rattle.rules.specs.Answers.{Outcome, each, perWorker, refusal, Refused, Spared, Row, Filled, shown, upTo, Logged, Counted, Given, Planned}
 use Rattle.rules.specs.laws.Bools.{find}
 use Rattle.rules.specs.laws.Decide.{between?, connected?}
@@ -149,24 +149,29 @@ up-to-in (x ∷ h) (suc n) p (List·Memᴰ·tail m) = List·Memᴰ·tail (up-to-
 written : (n : ℕ) (v l : List ℕ) → length v ≡ n → n ≤ length l → Spared n l (over v l)
 written n v l e h = subst (λ (k : ℕ). Spared k l (over v l)) e (record { length-kept = over-length v l (omega arith); kept = over-spare v l })
 
+-- a sound query has a method
+pub method-one : (q : Query) → Sound q → IsMethod q 1
+method-one q good = record { from-one = omega arith; to-count = good .some-method }
+
+-- the least cost of each connected set
+pub best-least : (q : Query) → Sound q → (S : ℕ) → Connected (q .graph) S → Least q S (bestAt q S)
+unfolding bestAt rowAt
+best-least q good S c = row-least q (method-one q good) (suc (tableCount (q .graph))) S (omega (arith, size-count (q .graph) S c)) c
+
 module _ (i : Input) (good : Accepted i) where
   q : Query
   q = i .query
 
-  method-one : IsMethod q 1
+  sound : Sound q
   unfolding q
-  method-one = record { from-one = omega arith; to-count = good .checked .sound .some-method }
-
-  best-least : (S : ℕ) → Connected (q .graph) S → Least q S (bestAt q S)
-  unfolding bestAt rowAt q
-  best-least S c = row-least q method-one (suc (tableCount (q .graph))) S (omega (arith, size-count (q .graph) S c)) c
+  sound = good .checked .sound
 
   row-right : (S : ℕ) → Connected (q .graph) S → Row q S (bestAt q S) (rowAt q S .outer) (rowAt q S .method)
   unfolding rowAt q
   row-right S c = record {
-    least = best-least S c;
+    least = best-least q sound S c;
     one = λ l. unfold rowOf in (unfold scanRow in (rw (le-leb (size S) 1 l) (refl, refl)));
-    more = λ two. row-pick q method-one (tableCount (q .graph)) S (omega (arith, size-count (q .graph) S c)) c two;
+    more = λ two. row-pick q (method-one q sound) (tableCount (q .graph)) S (omega (arith, size-count (q .graph) S c)) c two;
   }
 
   filled : (scheme : Scheme) → Filled q (i .lent) (planOf i scheme .left)
@@ -205,8 +210,8 @@ module _ (i : Input) (good : Accepted i) where
     stands j l =
         let p = pair-at handed j l in
         row-stands q (bestAt q) (upTo handed j)
-        (λ p′ m. let c = handed-joinable p′ (up-to-in handed (suc j) p′ m) in (best-least (p′ .driving) (c .driving-conn), best-least (p′ .inner) (c .inner-conn)))
-        (handed-best q (bestAt q) method-one (upTo handed j) (resultAt handed j) (p .0) (p .1) (p .2))
+        (λ p′ m. let c = handed-joinable p′ (up-to-in handed (suc j) p′ m) in (best-least q sound (p′ .driving) (c .driving-conn), best-least q sound (p′ .inner) (c .inner-conn)))
+        (handed-best q (bestAt q) (method-one q sound) (upTo handed j) (resultAt handed j) (p .0) (p .1) (p .2))
 
     logged : Logged q handed (i .lent) (planOf i scheme .left)
     unfolding planOf q handed
@@ -224,7 +229,7 @@ module _ (i : Input) (good : Accepted i) where
 
     counted : Counted q handed (planOf i scheme .answer)
     unfolding planOf q handed
-    counted = record { refusal = refl; place = refl; best = best-least (full (tableCount (q .graph))) (good .checked .sound .connected); rows = refl; cells = refl; pairs = refl; counts = refl }
+    counted = record { refusal = refl; place = refl; best = best-least q sound (full (tableCount (q .graph))) (good .checked .sound .connected); rows = refl; cells = refl; pairs = refl; counts = refl }
 
     plan-given : schemeOf (i .scheme) ≡ Good scheme → Given i (planOf i scheme)
     unfolding q

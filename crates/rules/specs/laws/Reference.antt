@@ -22,7 +22,7 @@ use Rattle.rules.specs.laws.Connected.{connected-single, connected-split
 use Rattle.rules.specs.laws.Decide.{connected?, between?}
 use Rattle.rules.specs.laws.Choice.{Choice, NoLater, Best, no-later-trans, no-later-refl, best-same, same}
 use Rattle.rules.specs.laws.Bellman.{Offer, bellman-least, bellman-pick}
-use Rattle.rules.specs.laws.Handed.{Priced, Offers, Handed}
+use Rattle.rules.specs.laws.Handed.{among, Priced, Offers, Handed}
 use Rattle.rules.specs.laws.Memo.{one-least}
 
 -- ---- the order, as a test
@@ -292,13 +292,13 @@ module _ (q : Query) (best : ℕ → ℕ) where
   offers-in-pair p k (inl d) = Memᴰ·append-left (byMethod q best (p .inner) (p .driving) (methodCount q)) (priced-in (p .driving) (p .inner) k d)
   offers-in-pair p k (inr d) = Memᴰ·append-right (byMethod q best (p .driving) (p .inner) (methodCount q)) (priced-in (p .inner) (p .driving) k d)
 
-  handed-of : (h : List Pair) (S : ℕ) (k : Choice) → List·Memᴰ k (offersFor h S) → Handed q best h S k
+  handed-of : (h : List Pair) (S : ℕ) (k : Choice) → List·Memᴰ k (offersFor h S) → Handed q best (among h) S k
   unfolding offersFor
   handed-of [] S k m = absurd (List·Memᴰ·not-nil m)
   handed-of (p ∷ h) S k m = go (handed-of h S k) (true-or-false (eqb (union p) S)) (List·Memᴰ·append-cases (cond (eqb (union p) S) (offersOf p) []) m)
     where
-      go : (List·Memᴰ k (offersFor h S) → Handed q best h S k) → (eqb (union p) S ≡ true) ⊎ (eqb (union p) S ≡ false)
-          → List·Memᴰ k (cond (eqb (union p) S) (offersOf p) []) ⊎ List·Memᴰ k (offersFor h S) → Handed q best (p ∷ h) S k
+      go : (List·Memᴰ k (offersFor h S) → Handed q best (among h) S k) → (eqb (union p) S ≡ true) ⊎ (eqb (union p) S ≡ false)
+          → List·Memᴰ k (cond (eqb (union p) S) (offersOf p) []) ⊎ List·Memᴰ k (offersFor h S) → Handed q best (among (p ∷ h)) S k
       go ih e (inr b) = let r = ih b in record { pair = r .pair; handed = List·Memᴰ·tail (r .handed); whole = r .whole; prices = r .prices }
       go ih (inl e) (inl a) = record { pair = p; handed = List·Memᴰ·head refl; whole = eqb-true (union p) S e; prices = offers-of-pair p k (rw e at a) }
       go ih (inr e) (inl a) = absurd (List·Memᴰ·not-nil (rw e at a))
@@ -312,7 +312,7 @@ module _ (q : Query) (best : ℕ → ℕ) where
   in-handed (x ∷ h) S p k (List·Memᴰ·tail m) w o = Memᴰ·append-right (cond (eqb (union x) S) (offersOf x) []) (in-handed h S p k m w o)
 
   -- where some pair of S was handed, the list's best is the best handed
-  pub handed-best : (me : IsMethod q 1) (h : List Pair) (S : ℕ) (p : Pair) → List·Memᴰ p h → union p ≡ S → Best (Handed q best h S) (pickOf (offersFor h S))
+  pub handed-best : (me : IsMethod q 1) (h : List Pair) (S : ℕ) (p : Pair) → List·Memᴰ p h → union p ≡ S → Best (Handed q best (among h) S) (pickOf (offersFor h S))
   unfolding pickOf
   handed-best me h S p m w = go (offersFor h S) refl
     where
@@ -322,6 +322,6 @@ module _ (q : Query) (best : ℕ → ℕ) where
       offered : Offers q best p first
       offered = unfold Offers in (inl (record { outer = refl; method = me; costs = refl }))
 
-      go : (l : List Choice) → offersFor h S ≡ l → Best (Handed q best h S) (pickOf l)
+      go : (l : List Choice) → offersFor h S ≡ l → Best (Handed q best (among h) S) (pickOf l)
       go [] e = absurd (List·Memᴰ·not-nil (rw e at (in-handed h S p first m w offered)))
       go (k ∷ ks) e = best-same (λ j i. handed-of h S j (rw e i)) (λ j o. rw e at (in-handed h S (o .pair) j (o .handed) (o .whole) (o .prices))) (best-of k ks)
