@@ -7,11 +7,9 @@ use native.Mathlib.Omega.{arith}
 use native.Mathlib.Numerals.{add-one}
 use lib.ListN.{length, getD, set, take, length-append, length-take, replicate, length-replicate, replicate-append-replicate, List·getD-append}
 use lib.Seq.{take-suc, set-comm, getD-at}
-use Rattle.rules.specs.Query.{Graph, tableCount}
 use Rattle.rules.specs.laws.Lists.{length-map}
-use Rattle.memo.specs.Walk.{upTo}
 use Rattle.memo.specs.Vectors.{written}
-use Rattle.memo.specs.Layout.{startsTo, starts}
+use Rattle.memo.specs.Layout.{countsTo}
 
 -- one more store after a run of stores
 pub written-push : (d : List ℕ) (at i : ℕ) (p : List ℕ) (v : ℕ) → at + length p ≡ i → set (written d at p) i v ≡ written d at (p ++ v ∷ [])
@@ -38,38 +36,37 @@ zeros-more d i e =
     let z : ℕ = 0 in
     rw e (written-push d 0 i (replicate i 0) 0 (omega (arith, length-replicate i z)) ∙ ap (written d 0) (replicate-append-replicate i 1 0))
 
--- ---- where the rows of each size begin
-module _ (g : Graph) where
-  length-starts : (k : ℕ) → length (startsTo g k) ≡ k
-  unfolding startsTo
-  length-starts zero = refl
-  length-starts (suc k) = omega (arith, length-append (startsTo g k) (length (upTo g k) ∷ []), length-starts k)
+-- ---- where each size begins, by f: how many rows, or cells, have the sizes 1 to k
+module _ (f : ℕ → ℕ) where
+  length-counts : (k : ℕ) → length (countsTo f k) ≡ k
+  unfolding countsTo
+  length-counts zero = refl
+  length-counts (suc k) = omega (arith, length-append (countsTo f k) (f k ∷ []), length-counts k)
 
-  pub starts-none : (d : List ℕ) → d ≡ written d 1 (startsTo g 0)
-  unfolding startsTo
-  starts-none d = refl
+  pub counts-none : (d : List ℕ) → d ≡ written d 1 (countsTo f 0)
+  unfolding countsTo
+  counts-none d = refl
 
-  -- one more size, where v is the number of rows of the smaller ones
-  pub starts-more : (d : List ℕ) (k : ℕ) {l : List ℕ} {v : ℕ} → l ≡ written d 1 (startsTo g k) → v ≡ length (upTo g k) → set l (k + 1) v ≡ written d 1 (startsTo g (k + 1))
-  unfolding startsTo
-  starts-more d k e w = rw (e, w, add-one k) (written-push d 1 (suc k) (startsTo g k) (length (upTo g k)) (omega (arith, length-starts k)))
+  -- one more size, where v is the number of the smaller ones
+  pub counts-more : (d : List ℕ) (k : ℕ) {l : List ℕ} {v : ℕ} → l ≡ written d 1 (countsTo f k) → v ≡ f k → set l (k + 1) v ≡ written d 1 (countsTo f (k + 1))
+  unfolding countsTo
+  counts-more d k e w = rw (e, w, add-one k) (written-push d 1 (suc k) (countsTo f k) (f k) (omega (arith, length-counts k)))
 
   -- the last number, and the first cell
-  pub starts-end : (d : List ℕ) (k : ℕ) {l : List ℕ} {v : ℕ} → k ≡ tableCount g → l ≡ written d 1 (startsTo g k) → v ≡ length (upTo g k) → set (set l (tableCount g + 1) v) 0 0 ≡ written d 0 (starts g)
-  starts-end d k {l} {v} e o w =
-      rw (starts-more d (tableCount g) (rw e at o) (rw e at w)) (store-ahead d 1 0 0 (startsTo g (tableCount g + 1)) (omega arith))
+  pub counts-end : (d : List ℕ) (n k : ℕ) {l : List ℕ} {v : ℕ} → k ≡ n → l ≡ written d 1 (countsTo f k) → v ≡ f k → set (set l (n + 1) v) 0 0 ≡ written d 0 (0 ∷ countsTo f (n + 1))
+  counts-end d n k {l} {v} e o w = rw (counts-more d n (rw e at o) (rw e at w)) (store-ahead d 1 0 0 (countsTo f (n + 1)) (omega arith))
 
-  -- what a reader finds in cell k + 1: how many rows have the sizes 1 to k
-  starts-to-at : (n k : ℕ) → k < n → getD (startsTo g n) k 0 ≡ length (upTo g k)
-  unfolding startsTo
-  starts-to-at zero k h = absurd (omega arith)
-  starts-to-at (suc n) k h = go (λ l. starts-to-at n k l) (decLt k n)
+  -- what a reader finds in cell k + 1
+  pub counts-at : (n k : ℕ) → k < n → getD (countsTo f n) k 0 ≡ f k
+  unfolding countsTo
+  counts-at zero k h = absurd (omega arith)
+  counts-at (suc n) k h = go (λ l. counts-at n k l) (decLt k n)
     where
-      go : (k < n → getD (startsTo g n) k 0 ≡ length (upTo g k)) → Dec (k < n) → getD (startsTo g n ++ length (upTo g n) ∷ []) k 0 ≡ length (upTo g k)
-      go ih (yes l) = List·getD-append (startsTo g n) (length (upTo g n) ∷ []) 0 k (omega (arith, length-starts n)) ∙ ih l
+      go : (k < n → getD (countsTo f n) k 0 ≡ f k) → Dec (k < n) → getD (countsTo f n ++ f n ∷ []) k 0 ≡ f k
+      go ih (yes l) = List·getD-append (countsTo f n) (f n ∷ []) 0 k (omega (arith, length-counts n)) ∙ ih l
       go ih (no z) =
           let e : n ≡ k = omega arith in
-          getD-at (startsTo g n) (length (upTo g n)) [] 0 k (length-starts n ∙ e) ∙ ap (λ (i : ℕ). length (upTo g i)) e
+          getD-at (countsTo f n) (f n) [] 0 k (length-counts n ∙ e) ∙ ap f e
 
-  pub starts-at : (k : ℕ) → k ≤ tableCount g → getD (starts g) (k + 1) 0 ≡ length (upTo g k)
-  starts-at k h = ap (λ (i : ℕ). getD (starts g) i 0) (add-one k) ∙ starts-to-at (tableCount g + 1) k (omega arith)
+pub length-starts : (f : ℕ → ℕ) (n : ℕ) → length (0 ∷ countsTo f n) ≡ suc n
+length-starts f n = ap suc (length-counts f n)

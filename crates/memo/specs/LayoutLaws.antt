@@ -1,6 +1,6 @@
 -- Laws of laying out: the rows of one size in a list of all rows, their skip cells after those of the smaller sizes, the columns, the one outcome.
 use mathlib.Core.Path.{_≡_, refl, sym, ap, ap₂, _∙_}
-use mathlib.Core.List.{List, [], _++_, map, append-assoc, append-nil, _∷_}
+use mathlib.Core.List.{List, [], _++_, map, append-nil, _∷_}
 use Prim.Native.Nat.{ℕ, zero, suc, _+_, _-_, _*_, _≤_, _<_}
 use native.Mathlib.Nat.{zero-add}
 use native.Mathlib.Decide.{decLt}
@@ -17,6 +17,7 @@ use Rattle.rules.specs.Skips.{vectorsFrom, vectors, skips}
 use Rattle.rules.specs.Refusals.{Input, refuse, firstOf, rooms, groups, checksOf}
 use Rattle.rules.specs.laws.Refusals.{AllAre, AllSame, same-groups}
 use Rattle.memo.specs.Walk.{upTo}
+use Rattle.rules.specs.laws.Lists.{row-split}
 use Rattle.memo.specs.WalkLaws.{wrote-both, upTo-more, length-more}
 use Rattle.memo.specs.SizeRows.{SizeRows}
 use Rattle.memo.specs.Vectors.{written}
@@ -26,14 +27,6 @@ use Rattle.memo.specs.declared.layout.Laid.{Laid}
 use Rattle.memo.specs.Layout.{cellsTo, Lent, lent, lentOf, Room, laid, refused, answered, counts, LaidOut, OneLength}
 
 -- ---- lists in a row
-row-split : {C : Type 0} (f : ℕ → List C) (k n m : ℕ) → inRow f k (n + m) ≡ inRow f k n ++ inRow f (k + n) m
-unfolding inRow
-row-split f k zero m = let e : k + 0 ≡ k = omega arith in rw (e, zero-add m)
-row-split {C = C} f k (suc n) m =
-    let d : suc n + m ≡ suc (n + m) = omega arith in
-    let e : suc k + n ≡ k + suc n = omega arith in
-    rw d (ap (λ (l : List C). f k ++ l) (row-split f (suc k) n m ∙ ap (λ (i : ℕ). inRow f (suc k) n ++ inRow f i m) e) ∙ sym (append-assoc (f k) (inRow f (suc k) n) (inRow f (k + suc n) m)))
-
 row-whole : {C : Type 0} (f : ℕ → List C) (k n : ℕ) → k ≤ n → inRow f 1 n ≡ inRow f 1 k ++ inRow f (1 + k) (n - k)
 row-whole f k n h = let e : n ≡ k + (n - k) = omega arith in ap (inRow f 1) e ∙ row-split f 1 k (n - k)
 
@@ -59,6 +52,9 @@ module _ (g : Graph) where
   cells-size k =
       let e : 1 + k ≡ k + 1 = omega arith in
       row-split (vectors g) 1 k 1 ∙ ap (λ (l : List ℕ). cellsTo g k ++ l) (append-nil (vectors g (1 + k)) ∙ ap (vectors g) e)
+
+  pub cells-count : (k : ℕ) {r : ℕ} → r ≡ length (rowsOf g (k + 1)) → length (cellsTo g (k + 1)) ≡ length (cellsTo g k) + r * (k + 1)
+  cells-count k e = omega (arith, ap (λ (x : ℕ). x * (k + 1)) e, vectors-cells g (k + 1), ap length (cells-size k), length-append (cellsTo g k) (vectors g (k + 1)))
 
   cells-le : (k : ℕ) → k ≤ tableCount g → length (cellsTo g k) ≤ length (skips g)
   unfolding skips
@@ -104,8 +100,7 @@ module _ {g : Graph} {k from count at : ℕ} {s : List ℕ} (z : NextSize g k fr
       )
 
   pub cells-next-at : at + count * (k + 1) ≡ length (cellsTo g (k + 1))
-  cells-next-at =
-      omega (arith, ap (λ (x : ℕ). x * (k + 1)) (z .many), vectors-cells g (k + 1), ap length (cells-size g k), length-append (cellsTo g k) (vectors g (k + 1)))
+  cells-next-at = omega (arith, cells-count g k (z .many))
 
   pub cells-inside : at + count * (k + 1) ≤ length (skips g)
   cells-inside = omega (arith, cells-next-at, cells-le g (k + 1) (omega arith))

@@ -2,7 +2,7 @@
 use mathlib.Core.Path.{_≡_, refl, sym, ap, ap₂, _∙_}
 use mathlib.Core.Logic.{_⊎_, inl, inr}
 use mathlib.Core.Bool.{Bool, true, false, cond, not, _&&_}
-use mathlib.Core.List.{List, [], _∷_, _++_, map, map-append, append-assoc, append-nil, List·Memᴰ, List·Memᴰ·head, List·Memᴰ·tail, Memᴰ·of-map}
+use mathlib.Core.List.{List, [], _∷_, _++_, map, map-append, List·Memᴰ, List·Memᴰ·head, List·Memᴰ·tail, Memᴰ·of-map}
 use Prim.Native.Nat.{ℕ, zero, suc, _+_, _-_, _*_, _^_, _≤_, _<_, _/_}
 use native.Mathlib.Nat.{pow-suc, zero-add, mul-suc, mul-le-mul}
 use native.Mathlib.Numerals.{add-one, sub-one}
@@ -21,7 +21,7 @@ use Rattle.rules.specs.Connected.{Connected, Walk, here, step}
 use Rattle.rules.specs.Rows.{combos, sequences, rowsOf, memo}
 use Rattle.rules.specs.Skips.{skips}
 use Rattle.rules.specs.laws.Bools.{true-or-false, not-both, yes-true, and-true-r}
-use Rattle.rules.specs.laws.Lists.{length-map, sum, sum-append}
+use Rattle.rules.specs.laws.Lists.{length-map, row-last, sum, sum-append}
 use Rattle.rules.specs.laws.Sets.{bit, bit-le, holds-bit, holds-none, holds-pos, holds-lt, holds-sum, holds-apart, holds-minus, holds-single, holds-single-only, disjoint-of-bits, union-of, splits-inner}
 use Rattle.rules.specs.laws.Connected.{Within, within-left, connected-single, within-same, within-on}
 use Rattle.rules.specs.laws.Decide.{connected?, betweenIn, between-of}
@@ -182,13 +182,6 @@ pub wrote-both : (old : List ℕ) (at : ℕ) {mid new : List ℕ} {next : ℕ} (
 wrote-both old at xs ys e m h = h ∙ ap₂ (λ (l : List ℕ) (i : ℕ). sets l i ys) m e ∙ sets-append old at xs ys
 
 -- ---- all sizes up to k
-row-more : {C : Type 0} (f : ℕ → List C) (k n : ℕ) → inRow f k (suc n) ≡ inRow f k n ++ f (k + n)
-unfolding inRow
-row-more f k zero = let e : k + 0 ≡ k = omega arith in rw (e, append-nil)
-row-more {C = C} f k (suc n) =
-    let e : suc k + n ≡ k + suc n = omega arith in
-    ap (λ (l : List C). f k ++ l) (row-more f (suc k) n ∙ ap (λ (i : ℕ). inRow f (suc k) n ++ f i) e) ∙ sym (append-assoc (f k) (inRow f (suc k) n) (f (k + suc n)))
-
 module _ (g : Graph) where
   pub upTo-none : upTo g 0 ≡ []
   unfolding inRow
@@ -197,7 +190,7 @@ module _ (g : Graph) where
   pub upTo-more : (k : ℕ) → upTo g (k + 1) ≡ upTo g k ++ rowsOf g (k + 1)
   upTo-more k =
       let e : 1 + k ≡ k + 1 = omega arith in
-      ap (upTo g) (add-one k) ∙ row-more (rowsOf g) 1 k ∙ ap (λ (i : ℕ). upTo g k ++ rowsOf g i) e
+      ap (upTo g) (add-one k) ∙ row-last (rowsOf g) 1 k ∙ ap (λ (i : ℕ). upTo g k ++ rowsOf g i) e
 
   pub upTo-end : (k : ℕ) → k ≡ tableCount g → upTo g k ≡ memo g
   unfolding memo

@@ -7,7 +7,7 @@ ghost use Rattle.rules.specs.Query.{graphOf};
 ghost use Rattle.rules.specs.Checked.{GoodGraph};
 ghost use Rattle.rules.specs.Estimate.{estimate};
 ghost use Rattle.memo.specs.Vectors.{written};
-ghost use Rattle.memo.specs.Layout.{starts};
+ghost use Rattle.memo.specs.Layout.{starts, cellStarts};
 use super::rows::count_size;
 use query::estimate::estimate;
 
@@ -46,25 +46,25 @@ pub fn lay_starts(
     left: &[u64],
     right: &[u64],
     divisors: &[u64],
-    starts: &mut [usize],
+    firsts: &mut [usize],
     cells: &mut [usize],
 )
     requires { ⌜ GoodGraph (graphOf (now rows) (now left) (now right) (now divisors)) ⌝ }
-    requires { ⌜ (length (now rows) + 2 ≤ length (now starts)) × (length (now rows) + 2 ≤ length (now cells)) ⌝ }
-    ensures rows { λ _. ⌜ now (starts .exit) ≡ written (now (starts .entry)) 0 (starts (graphOf (now (rows .entry)) (now (left .entry)) (now (right .entry)) (now (divisors .entry)))) ⌝ }
+    requires { ⌜ (length (now rows) + 2 ≤ length (now firsts)) × (length (now rows) + 2 ≤ length (now cells)) ⌝ }
+    ensures firsts { λ _. ⌜ now (firsts .exit) ≡ written (now (firsts .entry)) 0 (starts (graphOf (now (rows .entry)) (now (left .entry)) (now (right .entry)) (now (divisors .entry)))) ⌝ }
     ensures cells { λ _. ⌜ now (cells .exit) ≡ written (now (cells .entry)) 0 (cellStarts (graphOf (now (rows .entry)) (now (left .entry)) (now (right .entry)) (now (divisors .entry)))) ⌝ }
 {
     let mut row = 0usize;
     let mut cell = 0usize;
     for k in 0..rows.len() {
-        starts[k + 1] = row;
+        firsts[k + 1] = row;
         cells[k + 1] = cell;
         let count = count_size(rows, left, right, divisors, k as u64 + 1);
         row += count;
         cell += count * (k + 1);
     }
-    starts[rows.len() + 1] = row;
+    firsts[rows.len() + 1] = row;
     cells[rows.len() + 1] = cell;
-    starts[0] = 0;
+    firsts[0] = 0;
     cells[0] = 0;
 }

@@ -10,12 +10,12 @@ ghost use Rattle.rules.specs.Checked.{GoodGraph};
 ghost use Rattle.pairs.specs.Shares.{few, ShareOf, Aligned};
 ghost use Rattle.pairs.specs.Places.{firstOf, Ground, Hops, RowCells, Onward, SpanCells, Along, RowFrom, At, NextFrom, ownAt, SizesFit, countTo};
 ghost use Rattle.pairs.specs.Joinable.{isJoinable};
-use super::places::nowhere;
 use super::places::Place;
-use super::shares::span_of;
-use super::shares::span_on;
+use super::places::nowhere;
 use super::shares::Share;
 use super::shares::Span;
+use super::shares::span_of;
+use super::shares::span_on;
 use query::edges::edge_between;
 use sets::lowest_table;
 use sets::rank_of;
@@ -44,7 +44,15 @@ fn first_of(starts: &[usize], s: usize, size: usize, row: usize) -> usize
 
 // Past the row `inner` of size `wide` to the next row that lacks the lowest table of `both`, which the row holds; `base` is the size's
 // first row and `cell` its first skip cell.
-fn hop(sets: &[u64], skips: &[u64], base: usize, cell: usize, wide: usize, inner: usize, both: u64) -> usize
+fn hop(
+    sets: &[u64],
+    skips: &[u64],
+    base: usize,
+    cell: usize,
+    wide: usize,
+    inner: usize,
+    both: u64,
+) -> usize
     requires { ⌜ RowCells (now sets) (now skips) base cell wide inner ⌝ }
     requires { ⌜ (0 < both) × ((t : ℕ) → holds both t ≡ 1 → holds (getD (now sets) inner 0) t ≡ 1) ⌝ }
     ensures { λ r. ⌜ ((t : ℕ) → Lowest both t → Hops (now (sets .entry)) inner t r) ⌝ }
@@ -70,7 +78,16 @@ fn aligned(inner: usize, to: usize, step: usize) -> usize
 }
 
 // The next inner row of a worker's stride after `inner`; rows that overlap `x` as `inner` does are jumped.
-fn onward(sets: &[u64], skips: &[u64], base: usize, cell: usize, wide: usize, x: u64, inner: usize, step: usize) -> usize
+fn onward(
+    sets: &[u64],
+    skips: &[u64],
+    base: usize,
+    cell: usize,
+    wide: usize,
+    x: u64,
+    inner: usize,
+    step: usize,
+) -> usize
     requires { ⌜ RowCells (now sets) (now skips) base cell wide inner ⌝ }
     requires { ⌜ (1 ≤ step) × (step ≤ few) ⌝ }
     ensures { λ r. ⌜ Onward (now (sets .entry)) x inner step r ⌝ }
@@ -83,7 +100,19 @@ fn onward(sets: &[u64], skips: &[u64], base: usize, cell: usize, wide: usize, x:
 }
 
 // The first row of a span that may be joined with `x`, or one not before its end.
-pub fn along(rows: &[u64], left: &[u64], right: &[u64], divisors: &[u64], sets: &[u64], skips: &[u64], base: usize, cell: usize, wide: usize, x: u64, own: Span) -> usize
+pub fn along(
+    rows: &[u64],
+    left: &[u64],
+    right: &[u64],
+    divisors: &[u64],
+    sets: &[u64],
+    skips: &[u64],
+    base: usize,
+    cell: usize,
+    wide: usize,
+    x: u64,
+    own: Span,
+) -> usize
     requires { ⌜ GoodGraph (graphOf (now rows) (now left) (now right) (now divisors)) ⌝ }
     requires { ⌜ SpanCells (now sets) (now skips) base cell wide own ⌝ }
     ensures { λ r. ⌜ Along (graphOf (now (rows .entry)) (now (left .entry)) (now (right .entry)) (now (divisors .entry))) (now (sets .entry)) x own r ⌝ }
@@ -135,7 +164,14 @@ pub fn find(
         while i < rows_to {
             let x = sets[i];
             let first = first_of(starts, s, d, i);
-            let own = span_of(share, number, rows_to - rows_from, i - rows_from, first, end);
+            let own = span_of(
+                share,
+                number,
+                rows_to - rows_from,
+                i - rows_from,
+                first,
+                end,
+            );
             j = own.from;
             while j < own.end {
                 if joinable(rows, left, right, divisors, x, sets[j]) {
@@ -160,7 +196,6 @@ pub fn find(
     }
 }
 
-
 // The worker's first joinable pair of a size, or none.
 pub fn first_pair(
     rows: &[u64],
@@ -179,7 +214,21 @@ pub fn first_pair(
     requires { ⌜ ShareOf (graphOf (now rows) (now left) (now right) (now divisors)) s share × (2 ≤ s) × (s ≤ length (now rows)) ⌝ }
     ensures { λ r. ⌜ NextFrom (graphOf (now (rows .entry)) (now (left .entry)) (now (right .entry)) (now (divisors .entry))) s share 0 r ⌝ }
 {
-    find(rows, left, right, divisors, sets, skips, starts, cells, s, share, 1, starts[1], 0)
+    find(
+        rows,
+        left,
+        right,
+        divisors,
+        sets,
+        skips,
+        starts,
+        cells,
+        s,
+        share,
+        1,
+        starts[1],
+        0,
+    )
 }
 
 // The worker's next joinable pair after the one at `place`, or none: in its driving row first.
@@ -209,7 +258,19 @@ pub fn next_pair(
     let wide = s - d;
     let end = starts[wide + 1];
     let own = span_on(share, number, j, end);
-    let next = along(rows, left, right, divisors, sets, skips, starts[wide], cells[wide], wide, sets[i], own);
+    let next = along(
+        rows,
+        left,
+        right,
+        divisors,
+        sets,
+        skips,
+        starts[wide],
+        cells[wide],
+        wide,
+        sets[i],
+        own,
+    );
     if next < own.end {
         return Place {
             left: true,
@@ -219,7 +280,21 @@ pub fn next_pair(
             number: number + (next - j),
         };
     }
-    find(rows, left, right, divisors, sets, skips, starts, cells, s, share, d, i + 1, number + (end - j))
+    find(
+        rows,
+        left,
+        right,
+        divisors,
+        sets,
+        skips,
+        starts,
+        cells,
+        s,
+        share,
+        d,
+        i + 1,
+        number + (end - j),
+    )
 }
 
 // How many candidates a size has.

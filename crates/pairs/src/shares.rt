@@ -98,7 +98,14 @@ fn clip(from: usize, to: usize, ahead: usize, first: usize, end: usize) -> Span
 }
 
 // What a worker has of driving row `row` of `rows`, whose inner rows are `first` to `end` and whose first candidate has number `ahead`.
-pub fn span_of(share: Share, ahead: usize, rows: usize, row: usize, first: usize, end: usize) -> Span
+pub fn span_of(
+    share: Share,
+    ahead: usize,
+    rows: usize,
+    row: usize,
+    first: usize,
+    end: usize,
+) -> Span
     requires { ⌜ ShareFits share × (ahead ≤ few) × (rows ≤ few) × (first ≤ end) × (end ≤ few) ⌝ }
     ensures { λ r. ⌜ r ≡ spanOf share ahead rows row first end ⌝ }
 {

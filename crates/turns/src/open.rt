@@ -27,7 +27,18 @@ pub fn open(
         let old = next[w];
         next[w] = Worker {
             share: share,
-            place: first_pair(rows, left, right, divisors, sets, skips, starts, cells, s, share),
+            place: first_pair(
+                rows,
+                left,
+                right,
+                divisors,
+                sets,
+                skips,
+                starts,
+                cells,
+                s,
+                share,
+            ),
             last: starts[s],
             handed: old.handed,
         };

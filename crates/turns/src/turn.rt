@@ -84,7 +84,19 @@ pub fn step(
         costs[i] + costs[j],
     );
     let cost = keep(costs, outers, methods, row, choice);
-    let next = next_pair(rows, left, right, divisors, sets, skips, starts, cells, s, worker.share, place);
+    let next = next_pair(
+        rows,
+        left,
+        right,
+        divisors,
+        sets,
+        skips,
+        starts,
+        cells,
+        s,
+        worker.share,
+        place,
+    );
     Stepped {
         worker: Worker {
             share: worker.share,
@@ -124,7 +136,23 @@ pub fn turn(
 ) -> Turned {
     let worker = workers[w];
     let stepped = step(
-        rows, left, right, divisors, fixed, outer, inner, result, sets, estimates, costs, outers, methods, skips, starts, cells, s,
+        rows,
+        left,
+        right,
+        divisors,
+        fixed,
+        outer,
+        inner,
+        result,
+        sets,
+        estimates,
+        costs,
+        outers,
+        methods,
+        skips,
+        starts,
+        cells,
+        s,
         worker,
     );
     let mut next = workers;

@@ -1,10 +1,12 @@
 -- Laws of the tools on lists.
-use mathlib.Core.Path.{_≡_, refl, ap, _∙_}
+use mathlib.Core.Path.{_≡_, refl, sym, ap, _∙_}
 use mathlib.Core.Logic.{_⊎_, inl, inr, ⊎-elim}
 use mathlib.Core.Bool.{Bool, true, false, cond, _&&_}
-use mathlib.Core.List.{List, [], _∷_, _++_, map, List·Memᴰ, List·Memᴰ·head, List·Memᴰ·tail, List·Memᴰ·cases-cons, List·Memᴰ·not-nil, List·Memᴰ·append-cases, Memᴰ·append-left, Memᴰ·append-right}
+use mathlib.Core.List.{List, [], _∷_, _++_, map, List·Memᴰ, List·Memᴰ·head, List·Memᴰ·tail, List·Memᴰ·cases-cons, List·Memᴰ·not-nil, List·Memᴰ·append-cases, Memᴰ·append-left, Memᴰ·append-right, append-assoc, append-nil}
 use Prim.Native.Nat.{ℕ, zero, suc, _+_, _≤_, _<_}
+use native.Mathlib.Nat.{zero-add}
 use native.Mathlib.Decide.{ℕ-discrete}
+use native.Mathlib.Numerals.{add-one}
 use native.Mathlib.Omega.{arith}
 use lib.ListN.{length, drop, getD, length-append, length-drop, List·getD-append}
 use lib.Seq.{drop-append-seam}
@@ -40,6 +42,20 @@ keep-both {C} f g (c ∷ cs) = go (keep-both f g cs) (true-or-false (f c))
         → keep g (cond (f c) (c ∷ keep f cs) (keep f cs)) ≡ cond (f c && g c) (c ∷ keep (λ (x : C). f x && g x) cs) (keep (λ (x : C). f x && g x) cs)
     go ih (inl e) = rw (e, ih)
     go ih (inr e) = rw (e, ih)
+
+-- a row of lists, cut after n of them
+pub row-split : {C : Type 0} (f : ℕ → List C) (k n m : ℕ) → inRow f k (n + m) ≡ inRow f k n ++ inRow f (k + n) m
+unfolding inRow
+row-split f k zero m = let e : k + 0 ≡ k = omega arith in rw (e, zero-add m)
+row-split {C = C} f k (suc n) m =
+    let d : suc n + m ≡ suc (n + m) = omega arith in
+    let e : suc k + n ≡ k + suc n = omega arith in
+    rw d (ap (λ (l : List C). f k ++ l) (row-split f (suc k) n m ∙ ap (λ (i : ℕ). inRow f (suc k) n ++ inRow f i m) e) ∙ sym (append-assoc (f k) (inRow f (suc k) n) (inRow f (k + suc n) m)))
+
+-- and its last
+pub row-last : {C : Type 0} (f : ℕ → List C) (k n : ℕ) → inRow f k (suc n) ≡ inRow f k n ++ f (k + n)
+unfolding inRow
+row-last {C = C} f k n = ap (inRow f k) (sym (add-one n)) ∙ row-split f k n 1 ∙ ap (λ (l : List C). inRow f k n ++ l) (append-nil (f (k + n)))
 
 -- what stands in one of the lists stands in them all in a row, and nothing else does
 pub in-row : {C : Type 0} (f : ℕ → List C) (c : C) (k n j : ℕ) → k ≤ j → j < k + n → List·Memᴰ c (f j) → List·Memᴰ c (inRow f k n)

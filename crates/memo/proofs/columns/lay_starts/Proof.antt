@@ -1,49 +1,97 @@
 use mathlib.Core.Path.{_≡_, refl, sym, ap, _∙_}
-use Prim.Native.Nat.{_+_, _-_, _*_, _≤_}
+use Prim.Native.Nat.{ℕ, _+_, _-_, _*_, _≤_}
+use native.Mathlib.Nat.{mul-le-mul}
 use native.Mathlib.Omega.{arith}
 use lib.ListN.{length, set, length-set}
-use Rattle.rules.specs.Query.{graphOf}
+use Rattle.rules.specs.Query.{Graph, graphOf}
+use Rattle.rules.specs.Rows.{rowsOf}
 use Rattle.memo.specs.Walk.{upTo}
 use Rattle.memo.specs.WalkLaws.{upTo-none, length-more, rows-fit}
 use Rattle.memo.specs.Vectors.{written}
-use Rattle.memo.specs.Layout.{startsTo}
-use Rattle.memo.specs.ColumnLaws.{starts-none, starts-more, starts-end}
+use Rattle.memo.specs.Layout.{cellsTo, countsTo}
+use Rattle.memo.specs.ColumnLaws.{counts-none, counts-more, counts-end}
+use Rattle.memo.specs.LayoutLaws.{cells-start, cells-count}
 use Rattle.memo.proofs.columns.lay_starts.Statement.{statement}
 use Rattle.memo.proofs.columns.lay_starts.Tie as tie
 
 abbrev Inv-loop : tie.InvT-loop
-Inv-loop rows left right divisors out₀ count₀ k₀ k-end out count k =
-    (k ≤ length rows) × (k-end ≡ length rows) × (length out ≡ length out₀) × (count ≤ k * 65536) × (count ≡ length (upTo (graphOf rows left right divisors) k))
-    × (out ≡ written out₀ 1 (startsTo (graphOf rows left right divisors) k))
+Inv-loop rows left right divisors firsts₀ cells₀ row₀ cell₀ k₀ k-end firsts cells row cell k =
+    (k ≤ length rows) × (k-end ≡ length rows) × (length firsts ≡ length firsts₀) × (length cells ≡ length cells₀)
+    × (row ≤ k * 65536) × (cell ≤ k * 1048576)
+    × (row ≡ length (upTo (graphOf rows left right divisors) k)) × (cell ≡ length (cellsTo (graphOf rows left right divisors) k))
+    × (firsts ≡ written firsts₀ 1 (countsTo (λ j. length (upTo (graphOf rows left right divisors) j)) k))
+    × (cells ≡ written cells₀ 1 (countsTo (λ j. length (cellsTo (graphOf rows left right divisors) j)) k))
 
 abbrev μ-loop : tie.MeasureT-loop
-μ-loop rows left right divisors out₀ count₀ k₀ k-end out count k = k-end - k
+μ-loop rows left right divisors firsts₀ cells₀ row₀ cell₀ k₀ k-end firsts cells row cell k = k-end - k
 
 loop-holds : tie.Need-loop-holds Inv-loop μ-loop
 loop-holds c =
-    let s = c .before .before .before .before .before in
-    let g = graphOf (s .args .rows .now) (s .args .left .now) (s .args .right .now) (s .args .divisors .now) in
-    (omega arith, refl, refl, omega arith, sym (ap length (upTo-none g)), starts-none g (s .args .out .now))
+    let s = c .before .before .before .before .before .before in
+    let g = graphOf (s .args .rows .now) (s .args .left .now) (s .args .right .now) (s .args .divisors .now) in (
+      omega arith,
+      refl,
+      refl,
+      refl,
+      omega arith,
+      omega arith,
+      sym (ap length (upTo-none g)),
+      sym (ap length (cells-start g)),
+      counts-none (λ j. length (upTo g j)) (s .args .firsts .now),
+      counts-none (λ j. length (cellsTo g j)) (s .args .cells .now),
+    )
 
-add-out : tie.Need-add-out Inv-loop μ-loop
-add-out c = omega arith
+add-firsts : tie.Need-add-firsts Inv-loop μ-loop
+add-firsts c = omega arith
 
-mul-out : tie.Need-mul-out Inv-loop μ-loop
-mul-out c = omega arith
+mul-firsts : tie.Need-mul-firsts Inv-loop μ-loop
+mul-firsts c = omega arith
 
-slice-write-out : tie.Need-slice-write-out Inv-loop μ-loop
-slice-write-out c = omega arith
+slice-write-firsts : tie.Need-slice-write-firsts Inv-loop μ-loop
+slice-write-firsts c = omega arith
+
+add-cells : tie.Need-add-cells Inv-loop μ-loop
+add-cells c = omega arith
+
+mul-cells : tie.Need-mul-cells Inv-loop μ-loop
+mul-cells c = omega arith
+
+slice-write-cells : tie.Need-slice-write-cells Inv-loop μ-loop
+slice-write-cells c = omega arith
 
 add-count-size : tie.Need-add-count-size Inv-loop μ-loop
 add-count-size c = omega arith
 
 count-size-requires : tie.Need-count-size-requires Inv-loop μ-loop
-count-size-requires c κs = (c .before .before .before .before .before .before .before .pre .0, omega arith)
+count-size-requires c κs = (c .before .before .before .before .before .before .before .before .pre .0, omega arith)
 
-add-count : tie.Need-add-count Inv-loop μ-loop
-add-count c =
-    let s = c .before .before .before .before .before .before .before .before in
-    omega (arith, c .count-size .ensures, rows-fit (graphOf (s .args .rows .now) (s .args .left .now) (s .args .right .now) (s .args .divisors .now)) (c .before .before .loop .k + 1) (omega arith))
+add-row : tie.Need-add-row Inv-loop μ-loop
+add-row c =
+    let l = c .before .before .loop in
+    let s = c .before .before .before .before .before .before .before .before .before in
+    let g = graphOf (s .args .rows .now) (s .args .left .now) (s .args .right .now) (s .args .divisors .now) in
+    omega (arith, c .count-size .ensures, rows-fit g (l .k + 1) (omega arith))
+
+add-cell : tie.Need-add-cell Inv-loop μ-loop
+add-cell c = omega arith
+
+mul-cell : tie.Need-mul-cell Inv-loop μ-loop
+mul-cell c =
+    let l = c .before .before .loop in
+    let s = c .before .before .before .before .before .before .before .before .before in
+    let g = graphOf (s .args .rows .now) (s .args .left .now) (s .args .right .now) (s .args .divisors .now) in
+    let fit = rows-fit g (l .k + 1) (omega arith) in
+    let room = mul-le-mul {n₁ = c .count-size .result} {m₁ = l .k + 1} {n₂ = 65536} {m₂ = 16} (omega (arith, c .count-size .ensures)) (omega arith) in
+    omega (arith, room)
+
+add-cell-2 : tie.Need-add-cell-2 Inv-loop μ-loop
+add-cell-2 c =
+    let l = c .before .before .loop in
+    let s = c .before .before .before .before .before .before .before .before .before in
+    let g = graphOf (s .args .rows .now) (s .args .left .now) (s .args .right .now) (s .args .divisors .now) in
+    let fit = rows-fit g (l .k + 1) (omega arith) in
+    let room = mul-le-mul {n₁ = c .count-size .result} {m₁ = l .k + 1} {n₂ = 65536} {m₂ = 16} (omega (arith, c .count-size .ensures)) (omega arith) in
+    omega (arith, room)
 
 add-k : tie.Need-add-k Inv-loop μ-loop
 add-k c = omega arith
@@ -53,45 +101,78 @@ loop-less c = omega arith
 
 loop-again : tie.Need-loop-again Inv-loop μ-loop
 loop-again c =
-    let s = c .before .before .before .before .before .before .before .before in
     let l = c .before .before .loop in
-    let g = graphOf (s .args .rows .now) (s .args .left .now) (s .args .right .now) (s .args .divisors .now) in (
+    let s = c .before .before .before .before .before .before .before .before .before in
+    let g = graphOf (s .args .rows .now) (s .args .left .now) (s .args .right .now) (s .args .divisors .now) in
+    let fit = rows-fit g (l .k + 1) (omega arith) in
+    let room = mul-le-mul {n₁ = c .count-size .result} {m₁ = l .k + 1} {n₂ = 65536} {m₂ = 16} (omega (arith, c .count-size .ensures)) (omega arith) in (
       omega arith,
       l .inv .1,
-      length-set (l .out) (l .k + 1) (l .count) ∙ l .inv .2,
-      omega (arith, c .count-size .ensures, rows-fit g (l .k + 1) (omega arith)),
+      length-set (l .firsts) (l .k + 1) (l .row) ∙ l .inv .2,
+      length-set (l .cells) (l .k + 1) (l .cell) ∙ l .inv .3,
+      omega (arith, c .count-size .ensures, fit),
+      omega (arith, room),
       omega (arith, c .count-size .ensures, length-more g (l .k)),
-      starts-more g (s .args .out .now) (l .k) (l .inv .5) (l .inv .4),
+      omega (arith, cells-count g (l .k) (c .count-size .ensures)),
+      counts-more (λ j. length (upTo g j)) (s .args .firsts .now) (l .k) (l .inv .8) (l .inv .6),
+      counts-more (λ j. length (cellsTo g j)) (s .args .cells .now) (l .k) (l .inv .9) (l .inv .7),
     )
 
-add-out-2 : tie.Need-add-out-2 Inv-loop μ-loop
-add-out-2 c = omega arith
+add-firsts-2 : tie.Need-add-firsts-2 Inv-loop μ-loop
+add-firsts-2 c = omega arith
 
-mul-out-2 : tie.Need-mul-out-2 Inv-loop μ-loop
-mul-out-2 c = omega arith
+mul-firsts-2 : tie.Need-mul-firsts-2 Inv-loop μ-loop
+mul-firsts-2 c = omega arith
 
-slice-write-out-2 : tie.Need-slice-write-out-2 Inv-loop μ-loop
-slice-write-out-2 c = omega arith
+slice-write-firsts-2 : tie.Need-slice-write-firsts-2 Inv-loop μ-loop
+slice-write-firsts-2 c = omega arith
 
-slice-write-out-3 : tie.Need-slice-write-out-3 Inv-loop μ-loop
-slice-write-out-3 c =
+add-cells-2 : tie.Need-add-cells-2 Inv-loop μ-loop
+add-cells-2 c = omega arith
+
+mul-cells-2 : tie.Need-mul-cells-2 Inv-loop μ-loop
+mul-cells-2 c = omega arith
+
+slice-write-cells-2 : tie.Need-slice-write-cells-2 Inv-loop μ-loop
+slice-write-cells-2 c = omega arith
+
+slice-write-firsts-3 : tie.Need-slice-write-firsts-3 Inv-loop μ-loop
+slice-write-firsts-3 c =
     let l = c .before .loop in
-    let s = c .before .before .before .before .before .before .before in
-    omega (arith, length-set (l .out) (length (s .args .rows .now) + 1) (l .count))
+    let s = c .before .before .before .before .before .before .before .before in
+    let n = length (s .args .rows .now) + 1 in
+    omega (arith, length-set (l .firsts) n (l .row))
+
+slice-write-cells-3 : tie.Need-slice-write-cells-3 Inv-loop μ-loop
+slice-write-cells-3 c =
+    let l = c .before .loop in
+    let s = c .before .before .before .before .before .before .before .before in
+    let n = length (s .args .rows .now) + 1 in
+    omega (arith, length-set (l .cells) n (l .cell))
 
 same-length : tie.Need-same-length Inv-loop μ-loop
 same-length c =
     let l = c .before .loop in
-    let s = c .before .before .before .before .before .before .before in
+    let s = c .before .before .before .before .before .before .before .before in
     let n = length (s .args .rows .now) + 1 in
-    length-set (set (l .out) n (l .count)) 0 0 ∙ length-set (l .out) n (l .count) ∙ l .inv .2
+    length-set (set (l .firsts) n (l .row)) 0 0 ∙ length-set (l .firsts) n (l .row) ∙ l .inv .2
+
+same-length-2 : tie.Need-same-length-2 Inv-loop μ-loop
+same-length-2 c =
+    let l = c .before .loop in
+    let s = c .before .before .before .before .before .before .before .before in
+    let n = length (s .args .rows .now) + 1 in
+    length-set (set (l .cells) n (l .cell)) 0 0 ∙ length-set (l .cells) n (l .cell) ∙ l .inv .3
 
 returns : tie.Need-returns Inv-loop μ-loop
 returns c =
     let l = c .before .loop in
-    let s = c .before .before .before .before .before .before .before in
+    let s = c .before .before .before .before .before .before .before .before in
     let g = graphOf (s .args .rows .now) (s .args .left .now) (s .args .right .now) (s .args .divisors .now) in
-    starts-end g (s .args .out .now) (l .k) (omega arith) (l .inv .5) (l .inv .4)
+    let n = length (s .args .rows .now) in (
+      counts-end (λ j. length (upTo g j)) (s .args .firsts .now) n (l .k) (omega arith) (l .inv .8) (l .inv .6),
+      counts-end (λ j. length (cellsTo g j)) (s .args .cells .now) n (l .k) (omega arith) (l .inv .9) (l .inv .7),
+    )
 
 pub lay-starts-spec : {M : Type 1} → statement M
 lay-starts-spec =
@@ -100,18 +181,29 @@ lay-starts-spec =
     Inv-loop
     μ-loop
     loop-holds
-    add-out
-    mul-out
-    slice-write-out
+    add-firsts
+    mul-firsts
+    slice-write-firsts
+    add-cells
+    mul-cells
+    slice-write-cells
     add-count-size
     count-size-requires
-    add-count
+    add-row
+    add-cell
+    mul-cell
+    add-cell-2
     add-k
     loop-less
     loop-again
-    add-out-2
-    mul-out-2
-    slice-write-out-2
-    slice-write-out-3
+    add-firsts-2
+    mul-firsts-2
+    slice-write-firsts-2
+    add-cells-2
+    mul-cells-2
+    slice-write-cells-2
+    slice-write-firsts-3
+    slice-write-cells-3
     same-length
+    same-length-2
     returns)
