@@ -63,6 +63,10 @@ module _ (costs outers methods : List ℕ) (row : ℕ) (new : order.Choice) wher
   row-taken e = rw e (refl, (refl, (refl, refl)))
 
 -- ---- the least of the packed prices
+-- what packing a method requires
+pub method-fits : {fixed outer inner result : List ℕ} → Methods fixed outer inner result → (i : ℕ) → (getD fixed i 0 ≤ maxFixed) × (getD outer i 0 ≤ maxCoefficient) × (getD inner i 0 ≤ maxCoefficient) × (getD result i 0 ≤ maxCoefficient)
+method-fits m i = (m .fixed-fits i, m .outer-fits i, m .inner-fits i, m .result-fits i)
+
 -- r is the least packed price of the first k methods
 pub record CheapestOf (fixed outer inner result : List ℕ) (ex ey er k r : ℕ) : Type 0 where
   pub method : ℕ
@@ -98,12 +102,12 @@ module _ (fixed outer inner result : List ℕ) (ex ey er : ℕ) where
         go (no g) = omega (arith, c .least m a (omega arith))
 
     -- a method that is not cheaper leaves it
-    pub cheapest-stay : best ≤ next → CheapestOf fixed outer inner result ex ey er (k + 1) best
-    cheapest-stay l = record { method = c .method; from-one = c .from-one; to-count = omega (arith, c .to-count); is = c .is; least = among best (le-refl best) l }
+    pub cheapest-stay : (r : ℕ) → best ≤ next → r ≡ best → CheapestOf fixed outer inner result ex ey er (k + 1) r
+    cheapest-stay r l f = rw f (record { method = c .method; from-one = c .from-one; to-count = omega (arith, c .to-count); is = c .is; least = among best (le-refl best) l })
 
     -- a cheaper one takes its place
-    pub cheapest-next : next < best → CheapestOf fixed outer inner result ex ey er (k + 1) next
-    cheapest-next l = record { method = k + 1; from-one = omega arith; to-count = le-refl (k + 1); is = by-next; least = among next (omega arith) (le-refl next) }
+    pub cheapest-next : (r : ℕ) → next < best → r ≡ next → CheapestOf fixed outer inner result ex ey er (k + 1) r
+    cheapest-next r l f = rw f (record { method = k + 1; from-one = omega arith; to-count = le-refl (k + 1); is = by-next; least = among next (omega arith) (le-refl next) })
 
   -- of all methods it is the cheapest
   pub cheapest-all : (k r : ℕ) → k ≡ length fixed → CheapestOf fixed outer inner result ex ey er k r → Cheapest fixed outer inner result ex ey er r
