@@ -1,6 +1,6 @@
 -- The order of two choices by the code's tests, what a row keeps by them, and the least packed price method by method.
 use mathlib.Core.Path.{_≡_, refl, sym, ap, _∙_}
-use mathlib.Core.Bool.{true, false, or-false}
+use mathlib.Core.Bool.{Bool, true, false, or-false}
 use mathlib.Core.Logic.{inl, inr}
 use mathlib.Core.List.{List}
 use Prim.Native.Nat.{ℕ, _+_, _-_, _*_, _/_, _%_, _≤_, _<_}
@@ -114,35 +114,33 @@ module _ (fixed outer inner result : List ℕ) (ex ey er : ℕ) where
   cheapest-all k r e c = record { method = c .method; from-one = c .from-one; to-count = omega (arith, c .to-count); is = c .is; least = λ m a b. c .least m a (omega arith) }
 
 -- ---- the best way to join two sets
-module _ (fixed outer inner result : List ℕ) (ms : Methods fixed outer inner result) (ex ey er : ℕ) (es : Estimates ex ey er) (r : ℕ) (c : Cheapest fixed outer inner result ex ey er r) where
-  -- a packed price is far below 2 ^ 64
-  pub packed-fits : r / 8 ≤ maxFixed + 3 * (maxCoefficient * maxEstimate)
-  packed-fits =
-      omega
-      (arith, c .is, c .to-count, ms .few, ms .fixed-fits (c .method - 1), mul-le-mul (ms .outer-fits (c .method - 1)) (es .first), mul-le-mul (ms .inner-fits (c .method - 1)) (es .second), mul-le-mul (ms .result-fits (c .method - 1)) (es .result))
+-- a packed price and its method, as a choice
+abbrev unpack : ℕ → ℕ → ℕ → order.Choice
+unpack x base r = record { cost = base + r / 8; outer = x; method = r % 8 }
 
-  -- unpacked, the cheapest method's price and number are the best choice of one outer set
-  pub unpacked : (x base : ℕ) → Best (OneWay fixed outer inner result x ex ey er base) (record { cost = base + r / 8; outer = x; method = r % 8 })
-  unpacked x base = record {
-    among = record { outer-is = refl; from-one = omega (arith, number, c .from-one); to-count = omega (arith, number, c .to-count); costs = omega (arith, price, ap (priceBy fixed outer inner result ex ey er) number) };
+module _ (fixed outer inner result : List ℕ) (ms : Methods fixed outer inner result) where
+  -- the cheapest method is the best choice of one outer set
+  unpacked : (x ex ey er base r : ℕ) → Cheapest fixed outer inner result ex ey er r → Best (OneWay fixed outer inner result x ex ey er base) (unpack x base r)
+  unpacked x ex ey er base r c = record {
+    among = record { outer-is = refl; from-one = omega (arith, number); to-count = omega (arith, number); costs = omega (arith, price, ap (priceBy fixed outer inner result ex ey er) number) };
     first = λ k h.
         let l = c .least (k .method) (h .from-one) (h .to-count) in
-        let few : k .method ≤ 4 = omega (arith, h .to-count, ms .few) in
-        record { by-cost = omega (arith, h .costs); by-outer = λ _. omega (arith, h .outer-is); by-method = λ e _. omega (arith, h .costs) };
+        let few : k .method ≤ 4 = omega (arith, ms .few) in
+        record { by-cost = omega arith; by-outer = λ _. omega arith; by-method = λ e _. omega arith };
   }
     where
       number : r % 8 ≡ c .method
-      number = omega (arith, c .is, c .to-count, ms .few)
+      number = omega arith
 
       price : r / 8 ≡ priceBy fixed outer inner result ex ey er (c .method)
-      price = omega (arith, c .is, c .to-count, ms .few)
+      price = omega arith
 
--- the sooner of the best choices of both outer sets is the best of both
-module _ {P Q : order.Choice → Type 0} {a b : order.Choice} (p : Best P a) (q : Best Q b) where
-  pub best-first : sooner a b ≡ true → Best (order.Either P Q) a
-  unfolding better
-  best-first e = best-keep p q (rw e at (better-first a b .1))
+  module _ (x y ex ey er base d t : ℕ) (p : Cheapest fixed outer inner result ex ey er d) (q : Cheapest fixed outer inner result ey ex er t) (b : Bool) (e : b ≡ sooner (unpack x base d) (unpack y base t)) where
+    -- the sooner of both outer sets' best choices is the best of both
+    pub first-best : b ≡ true → Best (BothWays fixed outer inner result x y ex ey er base) (unpack x base d)
+    unfolding better
+    first-best f = best-keep (unpacked x ex ey er base d p) (unpacked y ey ex er base t q) (rw (sym e ∙ f) at (better-first (unpack x base d) (unpack y base t) .1))
 
-  pub best-second : sooner a b ≡ false → Best (order.Either P Q) b
-  unfolding better
-  best-second e = best-take p q (rw e at (better-first a b .0))
+    pub second-best : b ≡ false → Best (BothWays fixed outer inner result x y ex ey er base) (unpack y base t)
+    unfolding better
+    second-best f = best-take (unpacked x ex ey er base d p) (unpacked y ey ex er base t q) (rw (sym e ∙ f) at (better-first (unpack x base d) (unpack y base t) .0))
