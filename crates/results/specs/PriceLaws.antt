@@ -1,22 +1,20 @@
 -- The order of two choices by the code's tests, what a row keeps by them, and the least packed price method by method.
 use mathlib.Core.Path.{_≡_, refl, sym, ap, _∙_}
 use mathlib.Core.Bool.{Bool, true, false, or-false}
-use mathlib.Core.Logic.{inl, inr}
 use mathlib.Core.List.{List}
 use Prim.Native.Nat.{ℕ, _+_, _-_, _*_, _/_, _%_, _≤_, _<_}
-use native.Mathlib.Nat.{mul-le-mul, le-refl}
+use native.Mathlib.Nat.{le-refl}
 use native.Mathlib.Decide.{decLt}
 use native.Mathlib.Omega.{arith}
 use borrow.Author.Tests.{le-ltb, eq-eqb, ne-eqb}
-use lib.Dec.{eqb, ltb, leb}
+use lib.Dec.{ltb, leb}
 use lib.ListN.{length, getD, set}
 use lib.Seq.{set-getD}
-use Rattle.rules.specs.Limits.{maxFixed, maxCoefficient, maxEstimate}
-use Rattle.rules.specs.laws.Bools.{true-or-false}
+use Rattle.rules.specs.Limits.{maxFixed, maxCoefficient}
 use Rattle.rules.specs.laws.Choice as order
-use Rattle.rules.specs.laws.Choice.{NoLater, Best, best-keep, best-take}
+use Rattle.rules.specs.laws.Choice.{Best, best-keep, best-take}
 use Rattle.rules.specs.laws.Reference.{sooner, better, better-first}
-use Rattle.results.specs.Prices.{choiceAt, kept, priceBy, packed, Methods, Estimates, Cheapest, OneWay, BothWays}
+use Rattle.results.specs.Prices.{choiceAt, kept, priceBy, packed, Methods, Cheapest, OneWay, BothWays}
 
 -- ---- the order of two choices
 module _ (a b : order.Choice) where
@@ -51,6 +49,7 @@ module _ (a b : order.Choice) where
 
 -- ---- a row, as its three columns
 module _ (costs outers methods : List ℕ) (row : ℕ) (new : order.Choice) where
+  -- what the row keeps of what it holds and a new choice
   abbrev keeps : order.Choice
   keeps = kept (choiceAt costs outers methods row) new
 
@@ -75,13 +74,14 @@ pub record CheapestOf (fixed outer inner result : List ℕ) (ex ey er k r : ℕ)
   pub is : r ≡ priceBy fixed outer inner result ex ey er method * 8 + method
   pub least : (m : ℕ) → 1 ≤ m → m ≤ k → r ≤ priceBy fixed outer inner result ex ey er m * 8 + m
 
-module _ (fixed outer inner result : List ℕ) (ex ey er : ℕ) where
-  abbrev at : ℕ → ℕ
-  at k = packed (getD fixed k 0) (getD outer k 0) (getD inner k 0) (getD result k 0) ex ey er (k + 1)
+-- the packed price of the method at index k
+abbrev packedAt : List ℕ → List ℕ → List ℕ → List ℕ → ℕ → ℕ → ℕ → ℕ → ℕ
+packedAt fixed outer inner result ex ey er k = packed (getD fixed k 0) (getD outer k 0) (getD inner k 0) (getD result k 0) ex ey er (k + 1)
 
+module _ {fixed outer inner result : List ℕ} {ex ey er : ℕ} where
   -- of the first method it is its own
-  pub cheapest-first : (r : ℕ) → r ≡ at 0 → CheapestOf fixed outer inner result ex ey er 1 r
-  cheapest-first r e = record {
+  pub cheapest-first : {r : ℕ} → r ≡ packedAt fixed outer inner result ex ey er 0 → CheapestOf fixed outer inner result ex ey er 1 r
+  cheapest-first e = record {
     method = 1;
     from-one = le-refl 1;
     to-count = le-refl 1;
@@ -89,11 +89,12 @@ module _ (fixed outer inner result : List ℕ) (ex ey er : ℕ) where
     least = λ m a b. let o : m ≡ 1 = omega arith in rw (o, e) (le-refl _);
   }
 
-  module _ (k best next : ℕ) (c : CheapestOf fixed outer inner result ex ey er k best) (e : next ≡ at k) where
-    -- the packed price of the method after the first k
+  module _ {k best next : ℕ} (c : CheapestOf fixed outer inner result ex ey er k best) (e : next ≡ packedAt fixed outer inner result ex ey er k) where
+    -- the next method's, as a price by method
     by-next : next ≡ priceBy fixed outer inner result ex ey er (k + 1) * 8 + (k + 1)
     by-next = let z : k + 1 - 1 ≡ k = omega arith in rw z e
 
+    -- what is at most the least so far and the next is at most each of k + 1
     among : (r : ℕ) → r ≤ best → r ≤ next → (m : ℕ) → 1 ≤ m → m ≤ k + 1 → r ≤ priceBy fixed outer inner result ex ey er m * 8 + m
     among r p q m a b = go (decLt k m)
       where
@@ -102,23 +103,23 @@ module _ (fixed outer inner result : List ℕ) (ex ey er : ℕ) where
         go (no g) = omega (arith, c .least m a (omega arith))
 
     -- a method that is not cheaper leaves it
-    pub cheapest-stay : (r : ℕ) → best ≤ next → r ≡ best → CheapestOf fixed outer inner result ex ey er (k + 1) r
-    cheapest-stay r l f = rw f (record { method = c .method; from-one = c .from-one; to-count = omega (arith, c .to-count); is = c .is; least = among best (le-refl best) l })
+    pub cheapest-stay : {r : ℕ} → best ≤ next → r ≡ best → CheapestOf fixed outer inner result ex ey er (k + 1) r
+    cheapest-stay l f = rw f (record { method = c .method; from-one = c .from-one; to-count = omega (arith, c .to-count); is = c .is; least = among best (le-refl best) l })
 
     -- a cheaper one takes its place
-    pub cheapest-next : (r : ℕ) → next < best → r ≡ next → CheapestOf fixed outer inner result ex ey er (k + 1) r
-    cheapest-next r l f = rw f (record { method = k + 1; from-one = omega arith; to-count = le-refl (k + 1); is = by-next; least = among next (omega arith) (le-refl next) })
+    pub cheapest-next : {r : ℕ} → next < best → r ≡ next → CheapestOf fixed outer inner result ex ey er (k + 1) r
+    cheapest-next l f = rw f (record { method = k + 1; from-one = omega arith; to-count = le-refl (k + 1); is = by-next; least = among next (omega arith) (le-refl next) })
 
   -- of all methods it is the cheapest
-  pub cheapest-all : (k r : ℕ) → k ≡ length fixed → CheapestOf fixed outer inner result ex ey er k r → Cheapest fixed outer inner result ex ey er r
-  cheapest-all k r e c = record { method = c .method; from-one = c .from-one; to-count = omega (arith, c .to-count); is = c .is; least = λ m a b. c .least m a (omega arith) }
+  pub cheapest-all : {k r : ℕ} → k ≡ length fixed → CheapestOf fixed outer inner result ex ey er k r → Cheapest fixed outer inner result ex ey er r
+  cheapest-all e c = record { method = c .method; from-one = c .from-one; to-count = omega (arith, c .to-count); is = c .is; least = λ m a b. c .least m a (omega arith) }
 
 -- ---- the best way to join two sets
 -- a packed price and its method, as a choice
 abbrev unpack : ℕ → ℕ → ℕ → order.Choice
 unpack x base r = record { cost = base + r / 8; outer = x; method = r % 8 }
 
-module _ (fixed outer inner result : List ℕ) (ms : Methods fixed outer inner result) where
+module _ {fixed outer inner result : List ℕ} (ms : Methods fixed outer inner result) where
   -- the cheapest method is the best choice of one outer set
   unpacked : (x ex ey er base r : ℕ) → Cheapest fixed outer inner result ex ey er r → Best (OneWay fixed outer inner result x ex ey er base) (unpack x base r)
   unpacked x ex ey er base r c = record {
@@ -135,12 +136,13 @@ module _ (fixed outer inner result : List ℕ) (ms : Methods fixed outer inner r
       price : r / 8 ≡ priceBy fixed outer inner result ex ey er (c .method)
       price = omega arith
 
-  module _ (x y ex ey er base d t : ℕ) (p : Cheapest fixed outer inner result ex ey er d) (q : Cheapest fixed outer inner result ey ex er t) (b : Bool) (e : b ≡ sooner (unpack x base d) (unpack y base t)) where
-    -- the sooner of both outer sets' best choices is the best of both
+  module _ (x y base : ℕ) {ex ey er d t : ℕ} (p : Cheapest fixed outer inner result ex ey er d) (q : Cheapest fixed outer inner result ey ex er t) {b : Bool} (e : b ≡ sooner (unpack x base d) (unpack y base t)) where
+    -- the first outer set's best stands no later than the second's: it is the best of both
     pub first-best : b ≡ true → Best (BothWays fixed outer inner result x y ex ey er base) (unpack x base d)
     unfolding better
     first-best f = best-keep (unpacked x ex ey er base d p) (unpacked y ey ex er base t q) (rw (sym e ∙ f) at (better-first (unpack x base d) (unpack y base t) .1))
 
+    -- it stands later: the second's is
     pub second-best : b ≡ false → Best (BothWays fixed outer inner result x y ex ey er base) (unpack y base t)
     unfolding better
     second-best f = best-take (unpacked x ex ey er base d p) (unpacked y ey ex er base t q) (rw (sym e ∙ f) at (better-first (unpack x base d) (unpack y base t) .0))

@@ -22,7 +22,8 @@ size-part z a b c = record { forward = b; inside = omega (arith, z .inside); siz
 pub order-part : {sets : List ℕ} {from to low high : ℕ} → InOrder sets from to → from ≤ low → high ≤ to → InOrder sets low high
 order-part o a c = record { ascends = λ p q l m h. o .ascends p q (omega arith) m (omega arith) }
 
-module _ (sets : List ℕ) (from to s m : ℕ) (z : SizeRows sets from to (size s) 32) (o : InOrder sets from to) (lm : from ≤ m) (mt : m < to) (ls : s < 2 ^ 32) where
+module _ {sets : List ℕ} {from to s : ℕ} (m : ℕ) (z : SizeRows sets from to (size s) 32) (o : InOrder sets from to) (lm : from ≤ m) (mt : m < to) (ls : s < 2 ^ 32) where
+  -- each row comes before those behind it
   not-before : before (tables 32 s) (tables 32 (getD sets m 0)) ≡ false → (p : ℕ) → Stands sets from to s p → m ≤ p
   not-before e p h = go (decLt p m)
     where
@@ -31,23 +32,23 @@ module _ (sets : List ℕ) (from to s m : ℕ) (z : SizeRows sets from to (size 
       go (no g) = omega arith
 
   -- s does not come before the row: it stands there or behind it
-  pub look-from : (b : Bool) → b ≡ before (tables 32 s) (tables 32 (getD sets m 0)) → b ≡ false → (p : ℕ) → Stands sets from to s p → m ≤ p
-  look-from b e f = not-before (sym e ∙ f)
+  pub look-from : {b : Bool} → b ≡ before (tables 32 s) (tables 32 (getD sets m 0)) → b ≡ false → (p : ℕ) → Stands sets from to s p → m ≤ p
+  look-from e f = not-before (sym e ∙ f)
 
   -- the row holds s: it is its row
   pub look-found : getD sets m 0 ≡ s → (p : ℕ) → Stands sets from to s p → m ≡ p
   look-found e p h = omega (arith, not-before (rw e (before-self (tables 32 s))) p h, look-ahead sets from to s m z o lm mt ls (rw e (before-self (tables 32 s))) p h)
 
   -- s comes after the row: it stands behind it
-  pub look-after : (b : Bool) → b ≡ before (tables 32 (getD sets m 0)) (tables 32 s) → not b ≡ false → (p : ℕ) → Stands sets from to s p → m + 1 ≤ p
-  look-after b e f = look-behind sets from to s m z o lm mt ls (sym e ∙ not-false b f)
+  pub look-after : {b : Bool} → b ≡ before (tables 32 (getD sets m 0)) (tables 32 s) → not b ≡ false → (p : ℕ) → Stands sets from to s p → m + 1 ≤ p
+  look-after e f = look-behind sets from to s m z o lm mt ls (sym e ∙ not-false _ f)
 
   -- it does not, and the row does not hold it: it stands ahead
-  pub look-before : (b : Bool) → b ≡ before (tables 32 (getD sets m 0)) (tables 32 s) → not b ≡ true → (getD sets m 0 ≡ s → ⊥) → (p : ℕ) → Stands sets from to s p → p < m
-  look-before b e f n p h = go (decLt p m)
+  pub look-before : {b : Bool} → b ≡ before (tables 32 (getD sets m 0)) (tables 32 s) → not b ≡ true → (getD sets m 0 ≡ s → ⊥) → (p : ℕ) → Stands sets from to s p → p < m
+  look-before e f n p h = go (decLt p m)
     where
       go : Dec (p < m) → p < m
       go (yes l) = l
       go (no g) =
-          let d : m ≡ p = omega (arith, look-ahead sets from to s m z o lm mt ls (sym e ∙ not-true b f) p h) in
+          let d : m ≡ p = omega (arith, look-ahead sets from to s m z o lm mt ls (sym e ∙ not-true _ f) p h) in
           absurd (n (ap (λ (q : ℕ). getD sets q 0) d ∙ h .there))

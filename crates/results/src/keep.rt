@@ -7,7 +7,13 @@ use super::price::Choice;
 use super::price::sooner;
 
 // The row keeps the better of what it holds and `choice`; a row without an outer set holds nothing yet. The cost that it then has.
-pub fn keep(costs: &mut [u64], outers: &mut [u64], methods: &mut [u64], row: usize, choice: Choice) -> u64
+pub fn keep(
+    costs: &mut [u64],
+    outers: &mut [u64],
+    methods: &mut [u64],
+    row: usize,
+    choice: Choice,
+) -> u64
     requires { ⌜ (row < length (now costs)) × (row < length (now outers)) × (row < length (now methods)) ⌝ }
     ensures cost { λ r. ⌜ r ≡ kept (choiceAt (now (costs .entry)) (now (outers .entry)) (now (methods .entry)) row) (choiceOf choice) .cost ⌝ }
     ensures costs { λ r. ⌜ now (costs .exit) ≡ set (now (costs .entry)) row (kept (choiceAt (now (costs .entry)) (now (outers .entry)) (now (methods .entry)) row) (choiceOf choice) .cost) ⌝ }

@@ -1,11 +1,10 @@
 // The price of a pair: "Both outer choices and all methods of a joinable pair are priced in one turn."
 ghost use mathlib.Core.Path.{_≡_};
-ghost use Prim.Native.Nat.{_+_, _*_, _<_, _≤_};
-ghost use lib.ListN.{length, getD};
-ghost use Rattle.rules.specs.Limits.{maxFixed, maxCoefficient, maxEstimate, costBound};
+ghost use Prim.Native.Nat.{_+_, _<_, _≤_};
+ghost use Rattle.rules.specs.Limits.{maxFixed, maxCoefficient, costBound};
 ghost use Rattle.rules.specs.laws.Choice.{Best};
 ghost use Rattle.rules.specs.laws.Reference.{sooner};
-ghost use Rattle.results.specs.Prices.{choiceOf, priceBy, packed, Methods, Estimates, Cheapest, BothWays};
+ghost use Rattle.results.specs.Prices.{choiceOf, packed, Methods, Estimates, Cheapest, BothWays};
 
 // One way to join a pair: its cost, the outer set, the method.
 pub struct Choice {
@@ -32,7 +31,16 @@ pub fn sooner(a: Choice, b: Choice) -> bool
 }
 
 // One method's price and number in one number.
-fn pack(fixed: u64, outer: u64, inner: u64, result: u64, ex: u64, ey: u64, er: u64, method: u64) -> u64
+fn pack(
+    fixed: u64,
+    outer: u64,
+    inner: u64,
+    result: u64,
+    ex: u64,
+    ey: u64,
+    er: u64,
+    method: u64,
+) -> u64
     requires { ⌜ (fixed ≤ maxFixed) × (outer ≤ maxCoefficient) × (inner ≤ maxCoefficient) × (result ≤ maxCoefficient) ⌝ }
     requires { ⌜ Estimates ex ey er × (method < 8) ⌝ }
     ensures { λ r. ⌜ r ≡ packed fixed outer inner result ex ey er method ⌝ }
@@ -41,13 +49,30 @@ fn pack(fixed: u64, outer: u64, inner: u64, result: u64, ex: u64, ey: u64, er: u
 }
 
 // The cheapest method of a join whose outer part, inner part and result have these estimates, packed with its price.
-fn cheapest(fixed: &[u64], outer: &[u64], inner: &[u64], result: &[u64], ex: u64, ey: u64, er: u64) -> u64
+fn cheapest(
+    fixed: &[u64],
+    outer: &[u64],
+    inner: &[u64],
+    result: &[u64],
+    ex: u64,
+    ey: u64,
+    er: u64,
+) -> u64
     requires { ⌜ Methods (now fixed) (now outer) (now inner) (now result) × Estimates ex ey er ⌝ }
     ensures { λ r. ⌜ Cheapest (now (fixed .entry)) (now (outer .entry)) (now (inner .entry)) (now (result .entry)) ex ey er r ⌝ }
 {
     let mut best = pack(fixed[0], outer[0], inner[0], result[0], ex, ey, er, 1);
     for k in 1..fixed.len() {
-        let next = pack(fixed[k], outer[k], inner[k], result[k], ex, ey, er, k as u64 + 1);
+        let next = pack(
+            fixed[k],
+            outer[k],
+            inner[k],
+            result[k],
+            ex,
+            ey,
+            er,
+            k as u64 + 1,
+        );
         if next < best {
             best = next;
         }

@@ -1,15 +1,11 @@
-use Prim.Native.Nat.{_+_, _-_, _≤_}
 use mathlib.Core.Path.{_≡_}
 use mathlib.Core.Logic.{⊎-elim}
+use Prim.Native.Nat.{_-_, _≤_}
 use native.Mathlib.Omega.{arith}
-use borrow.Author.Needs.{needs}
 use lib.ListN.{length}
 use Rattle.results.specs.PriceLaws.{CheapestOf, method-fits, cheapest-first, cheapest-stay, cheapest-next, cheapest-all}
 use Rattle.results.proofs.price.cheapest.Statement.{statement}
 use Rattle.results.proofs.price.cheapest.Tie as tie
-use Rattle.results.proofs.price.cheapest.Reads as reads
-use Rattle.results.proofs.price.cheapest.Lts as lts
-use Rattle.results.proofs.price.pack.Reads as pack-reads
 
 abbrev Inv-loop : tie.InvT-loop
 Inv-loop fixed outer inner result ex ey er best₀ k₀ k-end best k = (1 ≤ k) × (k ≤ length fixed) × (k-end ≡ length fixed) × CheapestOf fixed outer inner result ex ey er k best
@@ -18,16 +14,16 @@ abbrev μ-loop : tie.MeasureT-loop
 μ-loop fixed outer inner result ex ey er best₀ k₀ k-end best k = k-end - k
 
 shared-slice-read-pack : tie.Need-shared-slice-read-pack Inv-loop μ-loop
-shared-slice-read-pack c = search needs
+shared-slice-read-pack c = omega arith
 
 shared-slice-read-pack-2 : tie.Need-shared-slice-read-pack-2 Inv-loop μ-loop
-shared-slice-read-pack-2 c = search needs
+shared-slice-read-pack-2 c = omega arith
 
 shared-slice-read-pack-3 : tie.Need-shared-slice-read-pack-3 Inv-loop μ-loop
-shared-slice-read-pack-3 c = search needs
+shared-slice-read-pack-3 c = omega arith
 
 shared-slice-read-pack-4 : tie.Need-shared-slice-read-pack-4 Inv-loop μ-loop
-shared-slice-read-pack-4 c = search needs
+shared-slice-read-pack-4 c = omega arith
 
 pack-requires : tie.Need-pack-requires Inv-loop μ-loop
 pack-requires c κs =
@@ -36,40 +32,39 @@ pack-requires c κs =
 
 loop-holds : tie.Need-loop-holds Inv-loop μ-loop
 loop-holds c =
-    let s = c .before .before .before .before .before .before .before .before .before in
-    let a = s .args in (
+    let s = c .before .before .before .before .before .before .before .before .before in (
       omega arith,
       s .pre .0 .some,
       omega arith,
-      cheapest-first (a .fixed .now) (a .outer .now) (a .inner .now) (a .result .now) (a .ex) (a .ey) (a .er) _ (c .pack .ensures),
+      cheapest-first (c .pack .ensures),
     )
 
 mul-pack : tie.Need-mul-pack Inv-loop μ-loop
-mul-pack c = search needs
+mul-pack c = omega arith
 
 shared-slice-read-pack-5 : tie.Need-shared-slice-read-pack-5 Inv-loop μ-loop
-shared-slice-read-pack-5 c = search needs
+shared-slice-read-pack-5 c = omega arith
 
 mul-pack-2 : tie.Need-mul-pack-2 Inv-loop μ-loop
-mul-pack-2 c = search needs
+mul-pack-2 c = omega arith
 
 shared-slice-read-pack-6 : tie.Need-shared-slice-read-pack-6 Inv-loop μ-loop
-shared-slice-read-pack-6 c = search needs
+shared-slice-read-pack-6 c = omega arith
 
 mul-pack-3 : tie.Need-mul-pack-3 Inv-loop μ-loop
-mul-pack-3 c = search needs
+mul-pack-3 c = omega arith
 
 shared-slice-read-pack-7 : tie.Need-shared-slice-read-pack-7 Inv-loop μ-loop
-shared-slice-read-pack-7 c = search needs
+shared-slice-read-pack-7 c = omega arith
 
 mul-pack-4 : tie.Need-mul-pack-4 Inv-loop μ-loop
-mul-pack-4 c = search needs
+mul-pack-4 c = omega arith
 
 shared-slice-read-pack-8 : tie.Need-shared-slice-read-pack-8 Inv-loop μ-loop
-shared-slice-read-pack-8 c = search needs
+shared-slice-read-pack-8 c = omega arith
 
 add-pack : tie.Need-add-pack Inv-loop μ-loop
-add-pack c = search needs
+add-pack c = omega arith
 
 pack-requires-2 : tie.Need-pack-requires-2 Inv-loop μ-loop
 pack-requires-2 c κs =
@@ -78,30 +73,26 @@ pack-requires-2 c κs =
     (method-fits (s .0) (g .loop .k), (s .1, omega (arith, s .0 .few)))
 
 add-k : tie.Need-add-k Inv-loop μ-loop
-add-k c = search needs
+add-k c = omega arith
 
 loop-less : tie.Need-loop-less Inv-loop μ-loop
-loop-less c = search needs
+loop-less c = omega arith
 
 loop-again : tie.Need-loop-again Inv-loop μ-loop
 loop-again c =
     let p = c .before in
-    let g = p .before .before .before .before .before .before in
-    let a = g .before .before .before .before .before .before .before .before .before .before .args in (
+    let g = p .before .before .before .before .before .before in (
       omega arith,
       omega arith,
       omega arith,
       ⊎-elim
-      (λ w. cheapest-next (a .fixed .now) (a .outer .now) (a .inner .now) (a .result .now) (a .ex) (a .ey) (a .er) (g .loop .k) (g .loop .best) (p .pack2 .result) (g .loop .inv .3) (p .pack2 .ensures) _ (w .0 .taken) (w .1))
-      (λ w. cheapest-stay (a .fixed .now) (a .outer .now) (a .inner .now) (a .result .now) (a .ex) (a .ey) (a .er) (g .loop .k) (g .loop .best) (p .pack2 .result) (g .loop .inv .3) (p .pack2 .ensures) _ (w .0 .left) (w .1))
-      (c .if1 .came),
+          (λ w. cheapest-next (g .loop .inv .3) (p .pack2 .ensures) (w .0 .taken) (w .1))
+          (λ w. cheapest-stay (g .loop .inv .3) (p .pack2 .ensures) (w .0 .left) (w .1))
+          (c .if1 .came),
     )
 
 returns : tie.Need-returns Inv-loop μ-loop
-returns c =
-    let g = c .before in
-    let a = g .before .before .before .before .before .before .before .before .before .before .args in
-    cheapest-all (a .fixed .now) (a .outer .now) (a .inner .now) (a .result .now) (a .ex) (a .ey) (a .er) (g .loop .k) _ (omega arith) (g .loop .inv .3)
+returns c = cheapest-all (omega arith) (c .before .loop .inv .3)
 
 pub cheapest-spec : {M : Type 1} → statement M
 cheapest-spec =

@@ -26,7 +26,7 @@ returns-3 : tie.Need-returns-3
 returns-3 c =
     let g = c .before in
     let s = g .before .before .before .before .before in
-    (omega arith, omega arith, look-from (s .args .sets .now) (s .args .from) (s .args .to) (s .args .s) (s .args .last) (s .pre .0) (s .pre .1) (omega arith) (omega arith) (s .pre .2) (g .comes-first .result) (g .comes-first .ensures) (c .if3 .left))
+    (omega arith, omega arith, look-from (s .args .last) (s .pre .0) (s .pre .1) (omega arith) (omega arith) (s .pre .2) (g .comes-first .ensures) (c .if3 .left))
 
 returns-4 : tie.Need-returns-4
 returns-4 c = search needs

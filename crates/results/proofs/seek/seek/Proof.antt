@@ -30,7 +30,7 @@ returns : tie.Need-returns Inv-loop μ-loop
 returns c =
     let g = c .before .before .before in
     let s = g .before .before .before in
-    look-found (s .args .sets .now) (s .args .from) (s .args .to) (s .args .s) (g .loop .high) (s .pre .0) (s .pre .1) (omega arith) (omega arith) (s .pre .2) (c .if1 .taken)
+    look-found (g .loop .high) (s .pre .0) (s .pre .1) (omega arith) (omega arith) (s .pre .2) (c .if1 .taken)
 
 mul-comes-first : tie.Need-mul-comes-first Inv-loop μ-loop
 mul-comes-first c = omega arith
@@ -65,7 +65,7 @@ loop-again c =
       omega arith,
       omega arith,
       omega arith,
-      look-after (s .args .sets .now) (s .args .from) (s .args .to) (s .args .s) (g .loop .high) (s .pre .0) (s .pre .1) (omega arith) (omega arith) (s .pre .2) (f .comes-first .result) (f .comes-first .ensures) (c .if2 .left),
+      look-after (g .loop .high) (s .pre .0) (s .pre .1) (omega arith) (omega arith) (s .pre .2) (f .comes-first .ensures) (c .if2 .left),
     )
 
 -- the rows that are left are a part of the rows
@@ -79,7 +79,7 @@ ahead : (c : tie.Left-loop Inv-loop μ-loop) →
 ahead c p h =
     let g = c .before in
     let s = g .before .before .before in
-    ⊎-elim (λ w. omega (arith, h .ahead)) (λ w. look-before (s .args .sets .now) (s .args .from) (s .args .to) (s .args .s) (g .loop .high) (s .pre .0) (s .pre .1) (omega arith) (omega arith) (s .pre .2) (w .4 .result) (w .4 .ensures) (w .5 .taken) (w .2 .left) p h) (c .loop-test .came)
+    ⊎-elim (λ w. omega (arith, h .ahead)) (λ w. look-before (g .loop .high) (s .pre .0) (s .pre .1) (omega arith) (omega arith) (s .pre .2) (w .4 .ensures) (w .5 .taken) (w .2 .left) p h) (c .loop-test .came)
 
 row-of-requires : tie.Need-row-of-requires Inv-loop μ-loop
 row-of-requires c κs =
