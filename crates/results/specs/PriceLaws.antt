@@ -136,7 +136,7 @@ module _ {fixed outer inner result : List ℕ} (ms : Methods fixed outer inner r
       price : r / 8 ≡ priceBy fixed outer inner result ex ey er (c .method)
       price = omega arith
 
-  module _ (x y base : ℕ) {ex ey er d t : ℕ} (p : Cheapest fixed outer inner result ex ey er d) (q : Cheapest fixed outer inner result ey ex er t) {b : Bool} (e : b ≡ sooner (unpack x base d) (unpack y base t)) where
+  module _ (x y ex ey er base d t : ℕ) (p : Cheapest fixed outer inner result ex ey er d) (q : Cheapest fixed outer inner result ey ex er t) {b : Bool} (e : b ≡ sooner (unpack x base d) (unpack y base t)) where
     -- the first outer set's best stands no later than the second's: it is the best of both
     pub first-best : b ≡ true → Best (BothWays fixed outer inner result x y ex ey er base) (unpack x base d)
     unfolding better

@@ -23,14 +23,16 @@ returns c =
     let turned = c .before .before in
     let driving = turned .before in
     let s = driving .before .before .before .before .before in
-    first-best (s .pre .0 .0) (s .args .x) (s .args .y) (s .args .base) (driving .cheapest .ensures) (turned .cheapest2 .ensures) (c .before .sooner .ensures) (c .if1 .taken)
+    let a = s .args in
+    first-best (s .pre .0 .0) (a .x) (a .y) (a .ex) (a .ey) (a .er) (a .base) (driving .cheapest .result) (turned .cheapest2 .result) (driving .cheapest .ensures) (turned .cheapest2 .ensures) (c .before .sooner .ensures) (c .if1 .taken)
 
 returns-2 : tie.Need-returns-2
 returns-2 c =
     let turned = c .before .before in
     let driving = turned .before in
     let s = driving .before .before .before .before .before in
-    second-best (s .pre .0 .0) (s .args .x) (s .args .y) (s .args .base) (driving .cheapest .ensures) (turned .cheapest2 .ensures) (c .before .sooner .ensures) (c .if1 .left)
+    let a = s .args in
+    second-best (s .pre .0 .0) (a .x) (a .y) (a .ex) (a .ey) (a .er) (a .base) (driving .cheapest .result) (turned .cheapest2 .result) (driving .cheapest .ensures) (turned .cheapest2 .ensures) (c .before .sooner .ensures) (c .if1 .left)
 
 pub price-spec : {M : Type 1} → statement M
 price-spec =

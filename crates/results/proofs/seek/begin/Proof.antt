@@ -1,4 +1,3 @@
-use mathlib.Core.Path.{sym}
 use native.Mathlib.Omega.{arith}
 use borrow.Author.Needs.{needs}
 use Rattle.results.specs.SeekLaws.{look-from}
@@ -16,8 +15,8 @@ shared-slice-read-comes-first c = search needs
 
 comes-first-requires : tie.Need-comes-first-requires
 comes-first-requires c κs =
-    let s = c .before .before .before .before .pre in
-    (sym (s .0 .sized _ (omega arith) (omega arith)), s .2, s .0 .below _ (omega arith) (omega arith))
+    let s = c .before .before .before .before in
+    omega (arith, s .pre .0 .sized (s .args .last) (omega arith) (omega arith), s .pre .0 .below (s .args .last) (omega arith) (omega arith))
 
 returns-2 : tie.Need-returns-2
 returns-2 c = search needs
