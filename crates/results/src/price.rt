@@ -1,11 +1,10 @@
 // The price of a pair: "Both outer choices and all methods of a joinable pair are priced in one turn."
 ghost use mathlib.Core.Path.{_≡_};
-ghost use Prim.Native.Nat.{_+_, _*_, _<_, _≤_};
-ghost use lib.ListN.{length, getD};
-ghost use Rattle.rules.specs.Limits.{maxFixed, maxCoefficient, maxEstimate, costBound};
+ghost use Prim.Native.Nat.{_+_, _<_, _≤_};
+ghost use Rattle.rules.specs.Limits.{maxFixed, maxCoefficient, costBound};
 ghost use Rattle.rules.specs.laws.Choice.{Best};
 ghost use Rattle.rules.specs.laws.Reference.{sooner};
-ghost use Rattle.results.specs.Prices.{choiceOf, priceBy, packed, Methods, Estimates, Cheapest, BothWays};
+ghost use Rattle.results.specs.Prices.{choiceOf, packed, Methods, Estimates, Cheapest, BothWays};
 
 // One way to join a pair: its cost, the outer set, the method.
 pub struct Choice {

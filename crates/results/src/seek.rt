@@ -1,6 +1,5 @@
 // Where the row of a set stands, sought from a place near which it is likely to be.
 ghost use mathlib.Core.Path.{_≡_};
-ghost use mathlib.Core.Bool.{true, false};
 ghost use Prim.Native.Nat.{ℕ, _^_, _≤_, _<_};
 ghost use Rattle.rules.specs.Sets.{size};
 ghost use Rattle.memo.specs.SizeRows.{SizeRows, InOrder, Stands};

@@ -1,0 +1,148 @@
+-- The order of two choices by the code's tests, what a row keeps by them, and the least packed price method by method.
+use mathlib.Core.Path.{_≡_, refl, sym, ap, _∙_}
+use mathlib.Core.Bool.{Bool, true, false, or-false}
+use mathlib.Core.List.{List}
+use Prim.Native.Nat.{ℕ, _+_, _-_, _*_, _/_, _%_, _≤_, _<_}
+use native.Mathlib.Nat.{le-refl}
+use native.Mathlib.Decide.{decLt}
+use native.Mathlib.Omega.{arith}
+use borrow.Author.Tests.{le-ltb, eq-eqb, ne-eqb}
+use lib.Dec.{ltb, leb}
+use lib.ListN.{length, getD, set}
+use lib.Seq.{set-getD}
+use Rattle.rules.specs.Limits.{maxFixed, maxCoefficient}
+use Rattle.rules.specs.laws.Choice as order
+use Rattle.rules.specs.laws.Choice.{Best, best-keep, best-take}
+use Rattle.rules.specs.laws.Reference.{sooner, better, better-first}
+use Rattle.results.specs.Prices.{choiceAt, kept, priceBy, packed, Methods, Cheapest, OneWay, BothWays}
+
+-- ---- the order of two choices
+module _ (a b : order.Choice) where
+  -- costs that differ decide
+  pub sooner-cost : (a .cost ≡ b .cost → ⊥) → ltb (a .cost) (b .cost) ≡ sooner a b
+  unfolding sooner
+  sooner-cost n = rw (ne-eqb _ _ n) (sym (or-false _))
+
+  -- else outer sets that differ
+  pub sooner-outer : a .cost ≡ b .cost → (a .outer ≡ b .outer → ⊥) → ltb (a .outer) (b .outer) ≡ sooner a b
+  unfolding sooner
+  sooner-outer e n = rw (le-ltb (a .cost) (b .cost) (omega arith), eq-eqb _ _ e, ne-eqb _ _ n) (sym (or-false _))
+
+  -- else the methods
+  pub sooner-method : a .cost ≡ b .cost → a .outer ≡ b .outer → leb (a .method) (b .method) ≡ sooner a b
+  unfolding sooner
+  sooner-method e f = rw (le-ltb (a .cost) (b .cost) (omega arith), eq-eqb _ _ e, le-ltb (a .outer) (b .outer) (omega arith), eq-eqb _ _ f)
+
+  -- the row holds a choice, and one that stands no later: it keeps it
+  pub kept-old : (a .outer ≡ 0 → ⊥) → sooner a b ≡ true → kept a b ≡ a
+  unfolding better
+  kept-old n e = rw (ne-eqb _ _ n, e)
+
+  -- it holds nothing: it takes the new one
+  pub kept-first : a .outer ≡ 0 → kept a b ≡ b
+  kept-first e = rw (eq-eqb _ _ e)
+
+  -- it holds a later one: it takes the new one
+  pub kept-new : (a .outer ≡ 0 → ⊥) → sooner a b ≡ false → kept a b ≡ b
+  unfolding better
+  kept-new n e = rw (ne-eqb _ _ n, e)
+
+-- ---- a row, as its three columns
+module _ (costs outers methods : List ℕ) (row : ℕ) (new : order.Choice) where
+  -- what the row keeps of what it holds and a new choice
+  abbrev keeps : order.Choice
+  keeps = kept (choiceAt costs outers methods row) new
+
+  -- a row that keeps what it holds is unchanged
+  pub row-kept : keeps ≡ choiceAt costs outers methods row → (getD costs row 0 ≡ keeps .cost) × ((costs ≡ set costs row (keeps .cost)) × ((outers ≡ set outers row (keeps .outer)) × (methods ≡ set methods row (keeps .method))))
+  row-kept e = rw e (refl, (sym (set-getD costs row 0), (sym (set-getD outers row 0), sym (set-getD methods row 0))))
+
+  -- one that takes the new choice holds its parts
+  pub row-taken : keeps ≡ new → (new .cost ≡ keeps .cost) × ((set costs row (new .cost) ≡ set costs row (keeps .cost)) × ((set outers row (new .outer) ≡ set outers row (keeps .outer)) × (set methods row (new .method) ≡ set methods row (keeps .method))))
+  row-taken e = rw e (refl, (refl, (refl, refl)))
+
+-- ---- the least of the packed prices
+-- what packing a method requires
+pub method-fits : {fixed outer inner result : List ℕ} → Methods fixed outer inner result → (i : ℕ) → (getD fixed i 0 ≤ maxFixed) × (getD outer i 0 ≤ maxCoefficient) × (getD inner i 0 ≤ maxCoefficient) × (getD result i 0 ≤ maxCoefficient)
+method-fits m i = (m .fixed-fits i, m .outer-fits i, m .inner-fits i, m .result-fits i)
+
+-- r is the least packed price of the first k methods
+pub record CheapestOf (fixed outer inner result : List ℕ) (ex ey er k r : ℕ) : Type 0 where
+  pub method : ℕ
+  pub from-one : 1 ≤ method
+  pub to-count : method ≤ k
+  pub is : r ≡ priceBy fixed outer inner result ex ey er method * 8 + method
+  pub least : (m : ℕ) → 1 ≤ m → m ≤ k → r ≤ priceBy fixed outer inner result ex ey er m * 8 + m
+
+-- the packed price of the method at index k
+abbrev packedAt : List ℕ → List ℕ → List ℕ → List ℕ → ℕ → ℕ → ℕ → ℕ → ℕ
+packedAt fixed outer inner result ex ey er k = packed (getD fixed k 0) (getD outer k 0) (getD inner k 0) (getD result k 0) ex ey er (k + 1)
+
+module _ {fixed outer inner result : List ℕ} {ex ey er : ℕ} where
+  -- of the first method it is its own
+  pub cheapest-first : {r : ℕ} → r ≡ packedAt fixed outer inner result ex ey er 0 → CheapestOf fixed outer inner result ex ey er 1 r
+  cheapest-first e = record {
+    method = 1;
+    from-one = le-refl 1;
+    to-count = le-refl 1;
+    is = e;
+    least = λ m a b. let o : m ≡ 1 = omega arith in rw (o, e) (le-refl _);
+  }
+
+  module _ {k best next : ℕ} (c : CheapestOf fixed outer inner result ex ey er k best) (e : next ≡ packedAt fixed outer inner result ex ey er k) where
+    -- the next method's, as a price by method
+    by-next : next ≡ priceBy fixed outer inner result ex ey er (k + 1) * 8 + (k + 1)
+    by-next = let z : k + 1 - 1 ≡ k = omega arith in rw z e
+
+    -- what is at most the least so far and the next is at most each of k + 1
+    among : (r : ℕ) → r ≤ best → r ≤ next → (m : ℕ) → 1 ≤ m → m ≤ k + 1 → r ≤ priceBy fixed outer inner result ex ey er m * 8 + m
+    among r p q m a b = go (decLt k m)
+      where
+        go : Dec (k < m) → r ≤ priceBy fixed outer inner result ex ey er m * 8 + m
+        go (yes l) = let o : m ≡ k + 1 = omega arith in rw o (omega (arith, by-next))
+        go (no g) = omega (arith, c .least m a (omega arith))
+
+    -- a method that is not cheaper leaves it
+    pub cheapest-stay : {r : ℕ} → best ≤ next → r ≡ best → CheapestOf fixed outer inner result ex ey er (k + 1) r
+    cheapest-stay l f = rw f (record { method = c .method; from-one = c .from-one; to-count = omega (arith, c .to-count); is = c .is; least = among best (le-refl best) l })
+
+    -- a cheaper one takes its place
+    pub cheapest-next : {r : ℕ} → next < best → r ≡ next → CheapestOf fixed outer inner result ex ey er (k + 1) r
+    cheapest-next l f = rw f (record { method = k + 1; from-one = omega arith; to-count = le-refl (k + 1); is = by-next; least = among next (omega arith) (le-refl next) })
+
+  -- of all methods it is the cheapest
+  pub cheapest-all : {k r : ℕ} → k ≡ length fixed → CheapestOf fixed outer inner result ex ey er k r → Cheapest fixed outer inner result ex ey er r
+  cheapest-all e c = record { method = c .method; from-one = c .from-one; to-count = omega (arith, c .to-count); is = c .is; least = λ m a b. c .least m a (omega arith) }
+
+-- ---- the best way to join two sets
+-- a packed price and its method, as a choice
+abbrev unpack : ℕ → ℕ → ℕ → order.Choice
+unpack x base r = record { cost = base + r / 8; outer = x; method = r % 8 }
+
+module _ {fixed outer inner result : List ℕ} (ms : Methods fixed outer inner result) where
+  -- the cheapest method is the best choice of one outer set
+  unpacked : (x ex ey er base r : ℕ) → Cheapest fixed outer inner result ex ey er r → Best (OneWay fixed outer inner result x ex ey er base) (unpack x base r)
+  unpacked x ex ey er base r c = record {
+    among = record { outer-is = refl; from-one = omega (arith, number); to-count = omega (arith, number); costs = omega (arith, price, ap (priceBy fixed outer inner result ex ey er) number) };
+    first = λ k h.
+        let l = c .least (k .method) (h .from-one) (h .to-count) in
+        let few : k .method ≤ 4 = omega (arith, ms .few) in
+        record { by-cost = omega arith; by-outer = λ _. omega arith; by-method = λ e _. omega arith };
+  }
+    where
+      number : r % 8 ≡ c .method
+      number = omega arith
+
+      price : r / 8 ≡ priceBy fixed outer inner result ex ey er (c .method)
+      price = omega arith
+
+  module _ (x y ex ey er base d t : ℕ) (p : Cheapest fixed outer inner result ex ey er d) (q : Cheapest fixed outer inner result ey ex er t) {b : Bool} (e : b ≡ sooner (unpack x base d) (unpack y base t)) where
+    -- the first outer set's best stands no later than the second's: it is the best of both
+    pub first-best : b ≡ true → Best (BothWays fixed outer inner result x y ex ey er base) (unpack x base d)
+    unfolding better
+    first-best f = best-keep (unpacked x ex ey er base d p) (unpacked y ey ex er base t q) (rw (sym e ∙ f) at (better-first (unpack x base d) (unpack y base t) .1))
+
+    -- it stands later: the second's is
+    pub second-best : b ≡ false → Best (BothWays fixed outer inner result x y ex ey er base) (unpack y base t)
+    unfolding better
+    second-best f = best-take (unpacked x ex ey er base d p) (unpacked y ey ex er base t q) (rw (sym e ∙ f) at (better-first (unpack x base d) (unpack y base t) .0))
