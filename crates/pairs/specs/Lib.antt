@@ -2,3 +2,4 @@
 pub mod Shares
 pub mod Joinable
 pub mod Places
+pub mod PlaceLaws

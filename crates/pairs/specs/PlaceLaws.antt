@@ -1,0 +1,366 @@
+-- Laws of places: where the rows of a size stand in the memo, how many candidates come before a driving row, which candidate has a number.
+use mathlib.Core.Path.{_≡_, refl, sym, ap, ap₂, _∙_}
+use mathlib.Core.Logic.{_⊎_, inl, inr}
+use mathlib.Core.Bool.{Bool, true, false, cond}
+use mathlib.Core.List.{List, [], _∷_, _++_}
+use Prim.Native.Nat.{ℕ, zero, suc, _+_, _-_, _*_, _/_, _≤_, _<_}
+use native.Mathlib.Nat.{zero-add}
+use native.Mathlib.Omega.{arith}
+use lib.Dec.{eqb}
+use lib.ListN.{length, getD, drop, length-append, length-drop, List·getD-append}
+use lib.Seq.{getD-append-add, getD-drop, drop-cons, drop-length}
+use borrow.Author.Tests.{eqb-true}
+use Rattle.rules.specs.Lists.{inRow}
+use Rattle.rules.specs.Query.{Graph, tableCount}
+use Rattle.rules.specs.Checked.{GoodGraph}
+use Rattle.rules.specs.Rows.{rowsOf, memo}
+use Rattle.rules.specs.Candidates.{Candidate, withRow, across, within, driven, candidatesOf, candidates}
+use Rattle.rules.specs.Shares.{numbered, met}
+use Rattle.rules.specs.laws.Bools.{true-or-false}
+use Rattle.rules.specs.laws.Candidates.{numbered-length}
+use Rattle.memo.specs.Walk.{upTo}
+use Rattle.memo.specs.WalkLaws.{length-more, rows-fit}
+use Rattle.pairs.specs.Shares.{few}
+use Rattle.pairs.specs.Places.{startOf, firstRow, endRow, rowsAhead, sizesAhead, aheadOf, candidateAt, noCandidate}
+
+-- ---- lists in a row
+-- one list more
+row-next : {C : Type 0} (f : ℕ → List C) (k n : ℕ) → length (inRow f k (suc n)) ≡ length (inRow f k n) + length (f (k + n))
+unfolding inRow
+row-next f k zero =
+    let e : k + 0 ≡ k = omega arith in
+    omega (arith, length-append (f k) [], ap (λ (x : ℕ). length (f x)) e)
+row-next f k (suc n) =
+    let e : suc k + n ≡ k + suc n = omega arith in
+    omega (arith, length-append (f k) (inRow f (suc k) (suc n)), length-append (f k) (inRow f (suc k) n), row-next f (suc k) n, ap (λ (x : ℕ). length (f x)) e)
+
+-- fewer lists are not longer
+pub row-mono : {C : Type 0} (f : ℕ → List C) (k m n : ℕ) → m ≤ n → length (inRow f k m) ≤ length (inRow f k n)
+unfolding inRow
+row-mono f k zero n h = omega arith
+row-mono f k (suc m) zero h = absurd (omega arith)
+row-mono f k (suc m) (suc n) h = omega (arith, length-append (f k) (inRow f (suc k) m), length-append (f k) (inRow f (suc k) n), row-mono f (suc k) m n (omega arith))
+
+-- what stands in the list after the first m
+pub row-at : {C : Type 0} (f : ℕ → List C) (c : C) (k m n p : ℕ) → m < n → p < length (f (k + m)) → getD (inRow f k n) (length (inRow f k m) + p) c ≡ getD (f (k + m)) p c
+unfolding inRow
+row-at f c k m zero p l h = absurd (omega arith)
+row-at f c k zero (suc n) p l h =
+    let e : k + 0 ≡ k = omega arith in
+    let z : 0 + p ≡ p = omega arith in
+    let h′ : p < length (f k) = rw e at h in
+    rw (e, z) (List·getD-append (f k) (inRow f (suc k) n) c p h′)
+row-at f c k (suc m) (suc n) p l h =
+    let e : suc k + m ≡ k + suc m = omega arith in
+    let z : length (f k ++ inRow f (suc k) m) + p ≡ length (f k) + (length (inRow f (suc k) m) + p) = omega (arith, length-append (f k) (inRow f (suc k) m)) in
+    rw z (getD-append-add (f k) (inRow f (suc k) n) (length (inRow f (suc k) m) + p) c ∙ (rw e at (row-at f c (suc k) m n p (omega arith) (rw (← e) at h))))
+
+-- its place is inside
+pub row-inside : {C : Type 0} (f : ℕ → List C) (k m n p : ℕ) → m < n → p < length (f (k + m)) → length (inRow f k m) + p < length (inRow f k n)
+row-inside f k m n p l h = omega (arith, row-next f k m, row-mono f k (suc m) n l)
+
+-- ---- where rows stand
+module _ (g : Graph) where
+  -- a size's rows end where the next size's begin
+  pub start-next : (k : ℕ) → 1 ≤ k → startOf g (k + 1) ≡ startOf g k + length (rowsOf g k)
+  start-next k l =
+      let e : k + 1 - 1 ≡ k - 1 + 1 = omega arith in
+      let f : k - 1 + 1 ≡ k = omega arith in
+      ap (λ (x : ℕ). length (upTo g x)) e ∙ length-more g (k - 1) ∙ ap (λ (x : ℕ). startOf g k + length (rowsOf g x)) f
+
+  -- the rows of size 1 come first
+  pub start-one : startOf g 1 ≡ 0
+  unfolding inRow
+  start-one = refl
+
+  -- a larger size does not begin before a smaller one
+  pub start-mono : (j k : ℕ) → j ≤ k → startOf g j ≤ startOf g k
+  start-mono j k h = row-mono (rowsOf g) 1 (j - 1) (k - 1) (omega arith)
+
+  -- after the largest size the memo ends
+  pub start-end : startOf g (tableCount g + 1) ≡ length (memo g)
+  unfolding memo
+  start-end = let e : tableCount g + 1 - 1 ≡ tableCount g = omega arith in ap (λ (x : ℕ). length (upTo g x)) e
+
+  -- each size begins inside the memo or at its end
+  pub start-memo : (k : ℕ) → k ≤ tableCount g + 1 → startOf g k ≤ length (memo g)
+  start-memo k h = omega (arith, start-end, start-mono k (tableCount g + 1) h)
+
+  -- row p of the memo is a row of its size
+  pub memo-row : (k p : ℕ) → 1 ≤ k → k ≤ tableCount g → startOf g k ≤ p → p < startOf g (k + 1) → getD (memo g) p 0 ≡ getD (rowsOf g k) (p - startOf g k) 0
+  unfolding memo
+  memo-row k p l u a b =
+      let e : 1 + (k - 1) ≡ k = omega arith in
+      let f : startOf g k + (p - startOf g k) ≡ p = omega arith in
+      let h : p - startOf g k < length (rowsOf g k) = omega (arith, start-next k l) in
+      rw (f, e) at (row-at (rowsOf g) 0 1 (k - 1) (tableCount g) (p - startOf g k) (omega arith) (rw e h))
+
+-- ---- the candidates of one driving row
+with-length : (D i X j : ℕ) (ys : List ℕ) → length (withRow D i X j ys) ≡ length ys
+unfolding withRow
+with-length D i X j [] = refl
+with-length D i X j (Y ∷ ys) = ap suc (with-length D i X (suc j) ys)
+
+with-at : (D i X j r : ℕ) (ys : List ℕ) → r < length ys → getD (withRow D i X j ys) r (noCandidate .candidate) ≡ record { rows = D; row = i; count = j + r; driving = X; inner = getD ys r 0 }
+unfolding withRow
+with-at D i X j r [] h = absurd (omega arith)
+with-at D i X j zero (Y ∷ ys) h = let e : j + 0 ≡ j = omega arith in rw e
+with-at D i X j (suc r) (Y ∷ ys) h = let e : j + suc r ≡ suc j + r = omega arith in rw e (with-at D i X (suc j) r ys (omega arith))
+
+-- ---- the driving rows of a size, one after another
+across-rows : (D i n : ℕ) (xs ys : List ℕ) → i + n ≡ length xs → across D i (drop i xs) ys ≡ inRow (λ (q : ℕ). withRow D q (getD xs q 0) 0 ys) i n
+unfolding across inRow
+across-rows D i zero xs ys e = let f : i ≡ length xs = omega arith in rw (f, drop-length)
+across-rows D i (suc n) xs ys e = rw (drop-cons xs i 0 (omega arith)) (ap (λ (l : List Candidate). withRow D i (getD xs i 0) 0 ys ++ l) (across-rows D (suc i) n xs ys (omega arith)))
+
+within-rows : (D i n : ℕ) (xs : List ℕ) → i + n ≡ length xs → within D i (drop i xs) ≡ inRow (λ (q : ℕ). withRow D q (getD xs q 0) 0 (drop (suc q) xs)) i n
+unfolding within inRow
+within-rows D i zero xs e = let f : i ≡ length xs = omega arith in rw (f, drop-length)
+within-rows D i (suc n) xs e = rw (drop-cons xs i 0 (omega arith)) (ap (λ (l : List Candidate). withRow D i (getD xs i 0) 0 (drop (suc i) xs) ++ l) (within-rows D (suc i) n xs (omega arith)))
+
+module _ (g : Graph) (s d : ℕ) where
+  -- the inner rows that driving row q, from 0, meets, and its candidates
+  abbrev innerRows : ℕ → List ℕ
+  innerRows q = cond (eqb (d + d) s) (drop (suc q) (rowsOf g d)) (rowsOf g (s - d))
+
+  abbrev metBy : ℕ → List Candidate
+  metBy q = withRow (length (rowsOf g d)) q (getD (rowsOf g d) q 0) 0 (innerRows q)
+
+  driven-rows : driven (rowsOf g) s d ≡ inRow metBy 0 (length (rowsOf g d))
+  unfolding driven
+  driven-rows = go (eqb (d + d) s)
+    where
+      D : ℕ
+      D = length (rowsOf g d)
+
+      go : (b : Bool) → cond b (within D 0 (rowsOf g d)) (across D 0 (rowsOf g d) (rowsOf g (s - d)))
+          ≡ inRow (λ (q : ℕ). withRow D q (getD (rowsOf g d) q 0) 0 (cond b (drop (suc q) (rowsOf g d)) (rowsOf g (s - d)))) 0 D
+      go true = within-rows D 0 D (rowsOf g d) (omega arith)
+      go false = across-rows D 0 D (rowsOf g d) (rowsOf g (s - d)) (omega arith)
+
+  -- one driving row more
+  pub ahead-row : (i : ℕ) → startOf g d ≤ i → aheadOf g s d (i + 1) ≡ aheadOf g s d i + (endRow g s d - firstRow g s d i)
+  unfolding rowsAhead
+  ahead-row i h =
+      let e : i + 1 - startOf g d ≡ suc (i - startOf g d) = omega arith in
+      let f : startOf g d + (i - startOf g d) ≡ i = omega arith in
+      rw (e, f) (omega arith)
+
+  -- the next driving size begins where this one ends
+  pub ahead-size : 1 ≤ d → aheadOf g s (d + 1) (startOf g (d + 1)) ≡ aheadOf g s d (startOf g (d + 1))
+  unfolding rowsAhead sizesAhead
+  ahead-size l =
+      let e : d + 1 - 1 ≡ suc (d - 1) = omega arith in
+      let f : startOf g (d + 1) - startOf g (d + 1) ≡ 0 = omega arith in
+      let h : startOf g (d + 1) - startOf g d ≡ length (rowsOf g d) = omega (arith, start-next g d l) in
+      let k : suc (d - 1) ≡ d = omega arith in
+      omega (arith, ap (sizesAhead g s) e, ap (rowsAhead g s (d + 1)) f, ap (rowsAhead g s d) h, ap (λ (x : ℕ). rowsAhead g s x (length (rowsOf g x))) k)
+
+  module _ (from-one : 1 ≤ d) (to-half : d ≤ s / 2) where
+    -- the inner rows of driving row q are those from its first on
+    inner-length : (q : ℕ) → length (innerRows q) ≡ endRow g s d - firstRow g s d (startOf g d + q)
+    inner-length q = go (true-or-false (eqb (d + d) s))
+      where
+        go : (eqb (d + d) s ≡ true) ⊎ (eqb (d + d) s ≡ false) → length (innerRows q) ≡ endRow g s d - firstRow g s d (startOf g d + q)
+        go (inl e) =
+            let f : s - d ≡ d = omega (arith, eqb-true (d + d) s e) in
+            rw (e, f) (omega (arith, length-drop (suc q) (rowsOf g d), start-next g d from-one))
+        go (inr e) = rw e (omega (arith, start-next g (s - d) (omega arith)))
+
+    met-length : (q : ℕ) → length (metBy q) ≡ endRow g s d - firstRow g s d (startOf g d + q)
+    met-length q = with-length (length (rowsOf g d)) q (getD (rowsOf g d) q 0) 0 (innerRows q) ∙ inner-length q
+
+    rows-ahead : (n : ℕ) → length (inRow metBy 0 n) ≡ rowsAhead g s d n
+    unfolding rowsAhead inRow
+    rows-ahead zero = refl
+    rows-ahead (suc n) =
+        let e : 0 + n ≡ n = omega arith in
+        omega (arith, row-next metBy 0 n, ap (λ (q : ℕ). length (metBy q)) e, met-length n, rows-ahead n)
+
+    -- a candidate of the size by its driving row and inner row, both from 0
+    driven-at : (q r : ℕ) → q < length (rowsOf g d) → r < length (innerRows q)
+        → getD (driven (rowsOf g) s d) (rowsAhead g s d q + r) (noCandidate .candidate) ≡ record { rows = length (rowsOf g d); row = q; count = r; driving = getD (rowsOf g d) q 0; inner = getD (innerRows q) r 0 }
+    driven-at q r a b =
+        let D = length (rowsOf g d) in
+        let X = getD (rowsOf g d) q 0 in
+        let h : r < length (metBy q) = omega (arith, with-length D q X 0 (innerRows q)) in
+        rw (driven-rows, ← rows-ahead q)
+        ((rw zero-add at (row-at metBy (noCandidate .candidate) 0 q D r a (rw zero-add h))) ∙ (rw zero-add at (with-at D q X 0 r (innerRows q) b)))
+
+    driven-inside : (q r : ℕ) → q < length (rowsOf g d) → r < length (innerRows q) → rowsAhead g s d q + r < length (driven (rowsOf g) s d)
+    driven-inside q r a b =
+        let D = length (rowsOf g d) in
+        let h : r < length (metBy q) = omega (arith, with-length D q (getD (rowsOf g d) q 0) 0 (innerRows q)) in
+        omega (arith, ap length driven-rows, rows-ahead q, row-inside metBy 0 q D r a (rw zero-add h))
+
+    module _ (i : ℕ) (row-from : startOf g d ≤ i) where
+      -- the first inner row is not before the inner size's first row
+      pub first-from : startOf g (s - d) ≤ firstRow g s d i
+      first-from = go (true-or-false (eqb (d + d) s))
+        where
+          go : (eqb (d + d) s ≡ true) ⊎ (eqb (d + d) s ≡ false) → startOf g (s - d) ≤ firstRow g s d i
+          go (inl e) =
+              let f : s - d ≡ d = omega (arith, eqb-true (d + d) s e) in
+              rw (e, f) (omega arith)
+          go (inr e) = rw e (omega arith)
+
+      module _ (row-to : i < startOf g (d + 1)) where
+        -- nor after its last
+        pub first-le : firstRow g s d i ≤ endRow g s d
+        first-le = go (true-or-false (eqb (d + d) s))
+          where
+            go : (eqb (d + d) s ≡ true) ⊎ (eqb (d + d) s ≡ false) → firstRow g s d i ≤ endRow g s d
+            go (inl e) =
+                let f : s - d ≡ d = omega (arith, eqb-true (d + d) s e) in
+                rw (e, f) (omega arith)
+            go (inr e) = rw e (start-mono g (s - d) (s - d + 1) (omega arith))
+
+        -- the set of inner row j
+        inner-at : (j : ℕ) → s ≤ tableCount g → firstRow g s d i ≤ j → j < endRow g s d → getD (innerRows (i - startOf g d)) (j - firstRow g s d i) 0 ≡ getD (memo g) j 0
+        inner-at j known a b = go (true-or-false (eqb (d + d) s)) a b
+          where
+            go : (eqb (d + d) s ≡ true) ⊎ (eqb (d + d) s ≡ false) → firstRow g s d i ≤ j → j < endRow g s d → getD (innerRows (i - startOf g d)) (j - firstRow g s d i) 0 ≡ getD (memo g) j 0
+            go (inl e) a b =
+                let f : s - d ≡ d = omega (arith, eqb-true (d + d) s e) in
+                let a′ : i + 1 ≤ j = rw e at a in
+                let b′ : j < startOf g (d + 1) = rw f at b in
+                let k : suc (i - startOf g d) + (j - (i + 1)) ≡ j - startOf g d = omega arith in
+                rw e (getD-drop (suc (i - startOf g d)) (rowsOf g d) (j - (i + 1)) 0 ∙ ap (λ (x : ℕ). getD (rowsOf g d) x 0) k ∙ sym (memo-row g d j from-one (omega arith) (omega arith) b′))
+            go (inr e) a b =
+                let a′ : startOf g (s - d) ≤ j = rw e at a in
+                rw e (sym (memo-row g (s - d) j (omega arith) (omega arith) a′ b))
+
+-- ---- all driving sizes
+module _ (g : Graph) (s : ℕ) where
+  sizes-ahead : (d : ℕ) → d ≤ s / 2 → length (inRow (driven (rowsOf g) s) 1 d) ≡ sizesAhead g s d
+  unfolding sizesAhead inRow
+  sizes-ahead zero h = refl
+  sizes-ahead (suc d) h =
+      let e : 1 + d ≡ suc d = omega arith in
+      omega (
+        arith,
+        row-next (driven (rowsOf g) s) 1 d,
+        ap (λ (x : ℕ). length (driven (rowsOf g) s x)) e,
+        ap length (driven-rows g s (suc d)),
+        rows-ahead g s (suc d) (omega arith) h (length (rowsOf g (suc d))),
+        sizes-ahead d (omega arith),
+      )
+
+  met-count : length (met g s) ≡ sizesAhead g s (s / 2)
+  unfolding met candidates candidatesOf
+  met-count = numbered-length 0 (candidates g s) ∙ sizes-ahead (s / 2) (omega arith)
+
+  -- before the first driving row no candidate is met
+  pub ahead-zero : aheadOf g s 1 (startOf g 1) ≡ 0
+  unfolding sizesAhead rowsAhead inRow
+  ahead-zero = refl
+
+  -- after the last, all are
+  pub ahead-end : aheadOf g s (s / 2 + 1) (startOf g (s / 2 + 1)) ≡ length (met g s)
+  unfolding rowsAhead
+  ahead-end =
+      let e : s / 2 + 1 - 1 ≡ s / 2 = omega arith in
+      let f : startOf g (s / 2 + 1) - startOf g (s / 2 + 1) ≡ 0 = omega arith in
+      omega (arith, ap (sizesAhead g s) e, ap (rowsAhead g s (s / 2 + 1)) f, met-count)
+
+numbered-at : (n p : ℕ) (cs : List Candidate) → p < length cs → getD (numbered n cs) p noCandidate ≡ record { number = n + p; candidate = getD cs p (noCandidate .candidate) }
+unfolding numbered
+numbered-at n p [] h = absurd (omega arith)
+numbered-at n zero (c ∷ cs) h = let e : n + 0 ≡ n = omega arith in rw e
+numbered-at n (suc p) (c ∷ cs) h = let e : n + suc p ≡ suc n + p = omega arith in rw e (numbered-at (suc n) p cs (omega arith))
+
+-- ---- the candidate of driving row i of size d and inner row j
+module _ (g : Graph) (s d i j : ℕ) (known : s ≤ tableCount g) (from-one : 1 ≤ d) (to-half : d ≤ s / 2) (row-from : startOf g d ≤ i) (row-to : i < startOf g (d + 1)) (inner-from : firstRow g s d i ≤ j) (inner-to : j < endRow g s d) where
+  row-known : i - startOf g d < length (rowsOf g d)
+  row-known = omega (arith, start-next g d from-one)
+
+  inner-known : j - firstRow g s d i < length (innerRows g s d (i - startOf g d))
+  inner-known =
+      let e : startOf g d + (i - startOf g d) ≡ i = omega arith in
+      omega (arith, inner-length g s d from-one to-half (i - startOf g d), ap (firstRow g s d) e)
+
+  driven-known : rowsAhead g s d (i - startOf g d) + (j - firstRow g s d i) < length (driven (rowsOf g) s (1 + (d - 1)))
+  driven-known =
+      let e : 1 + (d - 1) ≡ d = omega arith in
+      rw e (driven-inside g s d from-one to-half (i - startOf g d) (j - firstRow g s d i) row-known inner-known)
+
+  number-is : aheadOf g s d i + (j - firstRow g s d i) ≡ length (inRow (driven (rowsOf g) s) 1 (d - 1)) + (rowsAhead g s d (i - startOf g d) + (j - firstRow g s d i))
+  number-is = omega (arith, sizes-ahead g s (d - 1) (omega arith))
+
+  candidates-inside : aheadOf g s d i + (j - firstRow g s d i) < length (candidates g s)
+  unfolding candidates candidatesOf
+  candidates-inside = rw number-is (row-inside (driven (rowsOf g) s) 1 (d - 1) (s / 2) (rowsAhead g s d (i - startOf g d) + (j - firstRow g s d i)) (omega arith) driven-known)
+
+  candidates-at : getD (candidates g s) (aheadOf g s d i + (j - firstRow g s d i)) (noCandidate .candidate) ≡ candidateAt g s d i j .candidate
+  unfolding candidates candidatesOf
+  candidates-at =
+      let q = i - startOf g d in
+      let r = j - firstRow g s d i in
+      let e : 1 + (d - 1) ≡ d = omega arith in
+      ap (λ (n : ℕ). getD (candidates g s) n (noCandidate .candidate)) number-is
+      ∙ row-at (driven (rowsOf g) s) (noCandidate .candidate) 1 (d - 1) (s / 2) (rowsAhead g s d q + r) (omega arith) driven-known
+      ∙ ap (λ (x : ℕ). getD (driven (rowsOf g) s x) (rowsAhead g s d q + r) (noCandidate .candidate)) e
+      ∙ driven-at g s d from-one to-half q r row-known inner-known
+      ∙ ap₂ (λ (X Y : ℕ). record { rows = length (rowsOf g d); row = q; count = r; driving = X; inner = Y }) (sym (memo-row g d i from-one (omega arith) row-from row-to))
+      (inner-at g s d from-one to-half i row-from row-to j known inner-from inner-to)
+
+  -- it is one of the size's candidates
+  pub met-inside : aheadOf g s d i + (j - firstRow g s d i) < length (met g s)
+  unfolding met
+  met-inside = omega (arith, numbered-length 0 (candidates g s), candidates-inside)
+
+  -- the one that has its number
+  pub met-at : getD (met g s) (aheadOf g s d i + (j - firstRow g s d i)) noCandidate ≡ candidateAt g s d i j
+  unfolding met
+  met-at =
+      let n = aheadOf g s d i + (j - firstRow g s d i) in
+      numbered-at 0 n (candidates g s) candidates-inside ∙ ap₂ (λ (x : ℕ) (c : Candidate). record { number = x; candidate = c }) (zero-add n) candidates-at
+
+-- ---- how many there are
+-- no more candidates come before a driving row than the size has
+pub ahead-met : (g : Graph) (s d i : ℕ) → 1 ≤ d → d ≤ s / 2 → startOf g d ≤ i → i ≤ startOf g (d + 1) → aheadOf g s d i ≤ length (met g s)
+unfolding sizesAhead
+ahead-met g s d i from-one to-half a b =
+    let D = length (rowsOf g d) in
+    let e : suc (d - 1) ≡ d = omega arith in
+    let f : i - startOf g d ≤ D = omega (arith, start-next g d from-one) in
+    omega (
+      arith,
+      rows-ahead g s d from-one to-half (i - startOf g d),
+      rows-ahead g s d from-one to-half D,
+      row-mono (metBy g s d) 0 (i - startOf g d) D f,
+      ap (λ (x : ℕ). rowsAhead g s x (length (rowsOf g x))) e,
+      ap (sizesAhead g s) e,
+      sizes-ahead g s d to-half,
+      sizes-ahead g s (s / 2) (omega arith),
+      row-mono (driven (rowsOf g) s) 1 d (s / 2) to-half,
+      met-count g s,
+    )
+
+module _ (g : Graph) (good : GoodGraph g) where
+  rows-few : (k : ℕ) → length (upTo g k) ≤ k * 65536
+  unfolding inRow
+  rows-few zero = omega arith
+  rows-few (suc k) =
+      let e : k + 1 ≡ suc k = omega arith in
+      omega (arith, length-more g k, ap (λ (x : ℕ). length (upTo g x)) e, rows-fit g (k + 1) (good .few-tables), rows-few k)
+
+  -- the memo has few rows
+  pub memo-few : length (memo g) ≤ few
+  unfolding memo
+  memo-few = omega (arith, rows-few (tableCount g), good .few-tables)
+
+  driving-few : (s d n : ℕ) → 1 ≤ d → d ≤ s / 2 → rowsAhead g s d n ≤ n * 65536
+  unfolding rowsAhead
+  driving-few s d zero l u = omega arith
+  driving-few s d (suc n) l u =
+      omega (arith, driving-few s d n l u, first-from g s d l u (startOf g d + n) (omega arith), start-next g (s - d) (omega arith), rows-fit g (s - d) (good .few-tables))
+
+  sizes-few : (s d : ℕ) → d ≤ s / 2 → sizesAhead g s d ≤ d * 4294967296
+  unfolding sizesAhead
+  sizes-few s zero h = omega arith
+  sizes-few s (suc d) h = omega (arith, sizes-few s d (omega arith), driving-few s (suc d) (length (rowsOf g (suc d))) (omega arith) h, rows-fit g (suc d) (good .few-tables))
+
+  -- a size has few candidates
+  pub met-few : (s : ℕ) → s ≤ tableCount g → length (met g s) ≤ few
+  met-few s h = omega (arith, met-count g s, sizes-few s (s / 2) (omega arith), good .few-tables)
