@@ -3,3 +3,4 @@ pub mod Shares
 pub mod Joinable
 pub mod Places
 pub mod PlaceLaws
+pub mod SpanLaws
