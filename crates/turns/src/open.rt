@@ -1,11 +1,19 @@
 // Opening a size: every worker at its first joinable pair.
+ghost use mathlib.Core.Path.{_≡_};
+ghost use Prim.Native.Nat.{ℕ, _*_, _-_, _≤_, _<_};
+ghost use lib.ListN.{length};
+ghost use Rattle.rules.specs.Limits.{maxWorkers};
+ghost use Rattle.rules.specs.Query.{graphOf};
+ghost use Rattle.rules.specs.Checked.{GoodGraph};
+ghost use Rattle.pairs.specs.Places.{Ground};
+ghost use Rattle.turns.specs.Standing.{Opened};
 use super::turn::Worker;
 use pairs::find::count_candidates;
 use pairs::find::first_pair;
-use pairs::places::nowhere;
 use pairs::shares::share_of;
 use rules::Scheme;
 
+// Places each of `count` workers at its first joinable pair of size `s`, with its share of the size.
 pub fn open(
     rows: &[u64],
     left: &[u64],
@@ -19,7 +27,11 @@ pub fn open(
     scheme: Scheme,
     count: usize,
     workers: [Worker; 8],
-) -> [Worker; 8] {
+) -> [Worker; 8]
+    requires { ⌜ GoodGraph (graphOf (now rows) (now left) (now right) (now divisors)) × Ground (graphOf (now rows) (now left) (now right) (now divisors)) (now sets) (now skips) (now starts) (now cells) ⌝ }
+    requires { ⌜ (2 ≤ s) × (s ≤ length (now rows)) × (1 ≤ count) × (count ≤ maxWorkers) ⌝ }
+    ensures { λ r. ⌜ Opened (graphOf (now (rows .entry)) (now (left .entry)) (now (right .entry)) (now (divisors .entry))) s scheme count workers r ⌝ }
+{
     let total = count_candidates(starts, s);
     let mut next = workers;
     for w in 0..count {

@@ -1,4 +1,8 @@
 // "A turn hands its worker that worker's next joinable pair; with none left it changes nothing."
+ghost use mathlib.Core.Path.{_≡_};
+ghost use Prim.Native.Nat.{_<_};
+ghost use Rattle.rules.specs.Query.{graphOf};
+ghost use Rattle.turns.specs.Standing.{columns, Board, Ready, workerAt, noPair, Stepped, Turned};
 use pairs::find::next_pair;
 use pairs::places::Place;
 use pairs::shares::Share;
@@ -34,6 +38,18 @@ pub struct Turned {
     pub pair: Handed,
 }
 
+fn no_pair() -> Handed
+    ensures { λ r. ⌜ r ≡ noPair ⌝ }
+{
+    Handed {
+        found: false,
+        driving: 0,
+        inner: 0,
+        cost: 0,
+    }
+}
+
+// One worker's turn: the pair at its place is priced, its result's row keeps the better, and the worker goes on to its next pair.
 pub fn step(
     rows: &[u64],
     left: &[u64],
@@ -53,17 +69,16 @@ pub fn step(
     cells: &[usize],
     s: usize,
     worker: Worker,
-) -> Stepped {
+) -> Stepped
+    requires { ⌜ Board (graphOf (now rows) (now left) (now right) (now divisors)) (now fixed) (now outer) (now inner) (now result) (now sets) (now estimates) (now skips) (now starts) (now cells) s (columns (now costs) (now outers) (now methods)) ⌝ }
+    requires { ⌜ Ready (graphOf (now rows) (now left) (now right) (now divisors)) s worker ⌝ }
+    ensures { λ r. ⌜ Stepped (graphOf (now (rows .entry)) (now (left .entry)) (now (right .entry)) (now (divisors .entry))) (now (fixed .entry)) (now (outer .entry)) (now (inner .entry)) (now (result .entry)) s worker (r .worker) (columns (now (costs .entry)) (now (outers .entry)) (now (methods .entry))) (columns (now (costs .exit)) (now (outers .exit)) (now (methods .exit))) (r .pair) ⌝ }
+{
     let place = worker.place;
     if !place.left {
         return Stepped {
             worker: worker,
-            pair: Handed {
-                found: false,
-                driving: 0,
-                inner: 0,
-                cost: 0,
-            },
+            pair: no_pair(),
         };
     }
     let i = place.row;
@@ -113,6 +128,7 @@ pub fn step(
     }
 }
 
+// The turn of worker `w`: no other worker moves.
 pub fn turn(
     rows: &[u64],
     left: &[u64],
@@ -133,7 +149,11 @@ pub fn turn(
     s: usize,
     workers: [Worker; 8],
     w: usize,
-) -> Turned {
+) -> Turned
+    requires { ⌜ Board (graphOf (now rows) (now left) (now right) (now divisors)) (now fixed) (now outer) (now inner) (now result) (now sets) (now estimates) (now skips) (now starts) (now cells) s (columns (now costs) (now outers) (now methods)) ⌝ }
+    requires { ⌜ (w < 8) × Ready (graphOf (now rows) (now left) (now right) (now divisors)) s (workerAt workers w) ⌝ }
+    ensures { λ r. ⌜ Turned (graphOf (now (rows .entry)) (now (left .entry)) (now (right .entry)) (now (divisors .entry))) (now (fixed .entry)) (now (outer .entry)) (now (inner .entry)) (now (result .entry)) s w workers (r .workers) (columns (now (costs .entry)) (now (outers .entry)) (now (methods .entry))) (columns (now (costs .exit)) (now (outers .exit)) (now (methods .exit))) (r .pair) ⌝ }
+{
     let worker = workers[w];
     let stepped = step(
         rows,

@@ -1,0 +1,3 @@
+-- What a turn is, how the memo stands between turns, and the theorems of a size.
+pub mod Standing
+pub mod StandingLaws

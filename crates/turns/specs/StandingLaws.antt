@@ -1,0 +1,392 @@
+-- Opening a size, each turn and closing it: how the memo stands after them.
+use mathlib.Core.Path.{_≡_, refl, sym, ap, _∙_, subst}
+use mathlib.Core.Logic.{_⊎_, inl, inr, ⊎-elim}
+use mathlib.Core.Bool.{Bool, true, false, _&&_}
+use mathlib.Core.List.{List, [], _∷_, List·Memᴰ, List·Memᴰ·head, List·Memᴰ·tail}
+use Prim.Native.Nat.{ℕ, zero, suc, _+_, _-_, _*_, _/_, _≤_, _<_}
+use native.Mathlib.Nat.{add-comm}
+use native.Mathlib.Decide.{decLt, ℕ-discrete}
+use native.Mathlib.Omega.{arith}
+use lib.ListN.{length, getD, set}
+use lib.Seq.{getD-set-same, getD-set-other}
+use borrow.Author.Tests.{ne-eqb}
+use Rattle.rules.specs.declared.Scheme.{Scheme}
+use Rattle.rules.specs.Limits.{costBound}
+use Rattle.rules.specs.Sets.{size, single}
+use Rattle.rules.specs.Query.{Graph, Query, IsMethod, tableCount}
+use Rattle.rules.specs.Connected.{Connected}
+use Rattle.rules.specs.Estimate.{estimate}
+use Rattle.rules.specs.Trees.{price, Joinable, Least}
+use Rattle.rules.specs.Rows.{rowsOf, memo}
+use Rattle.rules.specs.Candidates.{Candidate, candidates, joinable}
+use Rattle.rules.specs.Shares.{Numbered, met, owns}
+use Rattle.rules.specs.Log.{Pair, union}
+use Rattle.rules.specs.Checked.{Sound}
+use Rattle.rules.specs.laws.Bools.{true-or-false, and-true, and-true-l, and-true-r, not-both}
+use Rattle.rules.specs.laws.Lists.{Once, at-in}
+use Rattle.rules.specs.laws.Choice.{Choice, NoLater, Best, best-same}
+use Rattle.rules.specs.laws.Candidates.{Has, numbered-in}
+use Rattle.rules.specs.laws.Connected.{joinable-sym, connected-split, connected-single}
+use Rattle.rules.specs.laws.Bellman.{least-unique, bellman-least, bellman-pick}
+use Rattle.rules.specs.laws.Handed.{JoinablePair, With, Complete, Priced, Offers, Handed, handed-same, row-first, row-keep, row-take, row-other, row-final}
+use Rattle.rules.specs.laws.Reference.{better, better-first, better-one}
+use Rattle.rules.specs.laws.Rows.{memo-only, memo-once, rows-only}
+use Rattle.rules.specs.laws.Estimate.{least-below}
+use Rattle.rules.specs.laws.Complete.{mine, met-joinable, pair-met, met-one, true-joinable}
+use Rattle.rules.specs.laws.Outcome.{bestAt, best-least, method-one}
+use Rattle.turns.specs.declared.turn.Worker.{Worker}
+use Rattle.pairs.specs.declared.places.Place.{Place}
+use Rattle.turns.specs.declared.turn.Handed as code
+use Rattle.pairs.specs.Shares.{few, ShareOf, shareOf}
+use Rattle.pairs.specs.Places.{startOf, metAt, noCandidate, candidateAt, At, ownAt, nowhere, Waits, NextFrom}
+use Rattle.pairs.specs.PlaceLaws.{start-next, start-mono, start-memo, memo-row, met-at, met-inside}
+use Rattle.results.specs.Prices.{choiceAt, kept, OneWay, BothWays}
+use Rattle.turns.specs.Standing.{Columns, choiceIn, stored, unset, Reach, Ready, nobody, workerAt, Crew, setsOf, pairAt, Handing, Stepped, Turned, Passed, Stood, FinalRow, Final, placesOf, Standing}
+
+-- ---- rows of the memo
+once-at : (l : List ℕ) → Once l → (i j : ℕ) → i < length l → j < length l → getD l i 0 ≡ getD l j 0 → i ≡ j
+unfolding Once
+once-at [] o i j a b e = absurd (omega arith)
+once-at (x ∷ l) o zero zero a b e = refl
+once-at (x ∷ l) o zero (suc j) a b e = absurd (o .0 (rw e (at-in 0 l j (omega arith))))
+once-at (x ∷ l) o (suc i) zero a b e = absurd (o .0 (rw (sym e) (at-in 0 l i (omega arith))))
+once-at (x ∷ l) o (suc i) (suc j) a b e = ap suc (once-at l (o .1) i j (omega arith) (omega arith) e)
+
+in-at : {C : Type 0} (c : C) (l : List C) (x : C) → List·Memᴰ x l → (j : ℕ) × (j < length l) × (getD l j c ≡ x)
+in-at c (y ∷ l) x (List·Memᴰ·head e) = (0, omega arith, sym e)
+in-at c (y ∷ l) x (List·Memᴰ·tail m) = let r = in-at c l x m in (suc (r .0), omega (arith, r .1), r .2)
+
+-- a row's set is connected
+row-connected : (g : Graph) (r : ℕ) → r < length (memo g) → Connected g (getD (memo g) r 0)
+row-connected g r l = memo-only g (getD (memo g) r 0) (at-in 0 (memo g) r l)
+
+-- ---- columns with one row anew
+module _ (g : Graph) (c : Columns) (k : Choice) (r : ℕ) where
+  pub choice-same : Reach g c → r < length (memo g) → choiceIn (stored c r k) r ≡ k
+  choice-same z l = λ t. record {
+    cost = getD-set-same (c .costs) r (k .cost) 0 (omega (arith, z .costs)) t;
+    outer = getD-set-same (c .outers) r (k .outer) 0 (omega (arith, z .outers)) t;
+    method = getD-set-same (c .methods) r (k .method) 0 (omega (arith, z .methods)) t;
+  }
+
+  pub choice-other : (p : ℕ) → (p ≡ r → ⊥) → choiceIn (stored c r k) p ≡ choiceIn c p
+  choice-other p n = λ t. record {
+    cost = getD-set-other (c .costs) r p (k .cost) 0 n t;
+    outer = getD-set-other (c .outers) r p (k .outer) 0 n t;
+    method = getD-set-other (c .methods) r p (k .method) 0 n t;
+  }
+
+-- ---- pairs handed, by places
+module _ (g : Graph) (scheme : Scheme) (m s : ℕ) where
+  pub passed-joinable : (place : ℕ → ℕ) (p : Pair) → Passed g scheme m s place p → JoinablePair g p
+  unfolding mine
+  passed-joinable place p x = rw (x .is) (met-joinable g s (metAt g s (x .number)) (at-in noCandidate (met g s) (x .number) (x .inside)) (and-true-r (owns scheme (length (met g s)) m (x .worker) (metAt g s (x .number))) (joinable g (metAt g s (x .number) .candidate)) (x .own)))
+
+  -- only where each worker stands counts
+  pub passed-same : (place place′ : ℕ → ℕ) → ((v : ℕ) → place v ≡ place′ v) → (p : Pair) → Passed g scheme m s place p → Passed g scheme m s place′ p
+  passed-same place place′ e p x = record { worker = x .worker; known = x .known; number = x .number; inside = x .inside; before = omega (arith, x .before, e (x .worker)); own = x .own; is = x .is }
+
+  -- worker w goes on from candidate n, its own, to its next: the pairs handed are those before, and n's
+  module _ (place place′ : ℕ → ℕ) (w : ℕ) (known : w < m) (others : (v : ℕ) → (v ≡ w → ⊥) → place′ v ≡ place v) (inside : place w < length (met g s))
+      (own : mine g scheme m s w (metAt g s (place w)) ≡ true) (on : place w < place′ w)
+      (clear : (y : ℕ) → place w + 1 ≤ y → y < place′ w → mine g scheme m s w (metAt g s y) ≡ false) where
+    pub passed-to : (p : Pair) → Passed g scheme m s place′ p → With (Passed g scheme m s place) (setsOf (metAt g s (place w))) p
+    passed-to p x = go (ℕ-discrete (x .worker) w)
+      where
+        back : x .number < place (x .worker) → Passed g scheme m s place p
+        back l = record { worker = x .worker; known = x .known; number = x .number; inside = x .inside; before = l; own = x .own; is = x .is }
+
+        at : x .worker ≡ w → Dec (x .number < place w) → Dec (x .number ≡ place w) → With (Passed g scheme m s place) (setsOf (metAt g s (place w))) p
+        at e (yes l) d = inl (back (rw e l))
+        at e (no z) (yes f) = inr (x .is ∙ ap (λ (n : ℕ). setsOf (metAt g s n)) f)
+        at e (no z) (no f) = absurd (not-both (mine g scheme m s w (metAt g s (x .number))) (rw e at (x .own)) (clear (x .number) (omega arith) (omega (arith, x .before, ap place′ e))))
+
+        go : Dec (x .worker ≡ w) → With (Passed g scheme m s place) (setsOf (metAt g s (place w))) p
+        go (yes e) = at e (decLt (x .number) (place w)) (ℕ-discrete (x .number) (place w))
+        go (no n) = inl (back (omega (arith, x .before, others (x .worker) n)))
+
+    pub passed-from : (p : Pair) → With (Passed g scheme m s place) (setsOf (metAt g s (place w))) p → Passed g scheme m s place′ p
+    passed-from p (inl x) = record { worker = x .worker; known = x .known; number = x .number; inside = x .inside; before = go (ℕ-discrete (x .worker) w); own = x .own; is = x .is }
+      where
+        go : Dec (x .worker ≡ w) → x .number < place′ (x .worker)
+        go (yes e) = omega (arith, x .before, ap place e, ap place′ e)
+        go (no n) = omega (arith, x .before, others (x .worker) n)
+    passed-from p (inr e) = record { worker = w; known = known; number = place w; inside = inside; before = on; own = own; is = e }
+
+-- ---- what a pair offers, said by numbers and by the query
+module _ (q : Query) (X Y : ℕ) where
+  to-offers : (k : Choice) → BothWays (q .fixed) (q .perOuter) (q .perInner) (q .perResult) X Y (estimate (q .graph) X) (estimate (q .graph) Y) (estimate (q .graph) (X + Y)) (bestAt q X + bestAt q Y) k
+      → Offers q (bestAt q) (record { driving = X; inner = Y }) k
+  unfolding Offers price
+  to-offers k (inl o) = inl (record { outer = o .outer-is; method = record { from-one = o .from-one; to-count = o .to-count }; costs = o .costs })
+  to-offers k (inr o) = inr (record {
+    outer = o .outer-is;
+    method = record { from-one = o .from-one; to-count = o .to-count };
+    costs = rw (add-comm Y X, add-comm (bestAt q Y) (bestAt q X)) (o .costs);
+  })
+
+  from-offers : (k : Choice) → Offers q (bestAt q) (record { driving = X; inner = Y }) k
+      → BothWays (q .fixed) (q .perOuter) (q .perInner) (q .perResult) X Y (estimate (q .graph) X) (estimate (q .graph) Y) (estimate (q .graph) (X + Y)) (bestAt q X + bestAt q Y) k
+  unfolding Offers price
+  from-offers k (inl o) = inl (record { outer-is = o .outer; from-one = o .method .from-one; to-count = o .method .to-count; costs = o .costs })
+  from-offers k (inr o) = inr (record {
+    outer-is = o .outer;
+    from-one = o .method .from-one;
+    to-count = o .method .to-count;
+    costs = rw (add-comm Y X, add-comm (bestAt q Y) (bestAt q X)) at (o .costs);
+  })
+
+-- an offer of connected sets has an outer set
+offers-some : (q : Query) (p : Pair) (k : Choice) → JoinablePair (q .graph) p → Offers q (bestAt q) p k → 0 < k .outer
+unfolding Offers
+offers-some q p k j (inl o) = omega (arith, o .outer, j .driving-conn .some)
+offers-some q p k j (inr o) = omega (arith, o .outer, j .inner-conn .some)
+
+-- only which pairs were handed counts
+stood-same : (q : Query) {P Q : Pair → Type 0} {S S′ : ℕ} {k k′ : Choice} → ((p : Pair) → P p → Q p) → ((p : Pair) → Q p → P p) → S ≡ S′ → k ≡ k′ → Stood q P S′ k′ → Stood q Q S k
+stood-same q to from e f (inl x) = rw (e, f) (inl (λ p h u. x .0 p (from p h) u, x .1))
+stood-same q to from e f (inr b) = rw (e, f) (inr (handed-same q (bestAt q) to from b))
+
+-- ---- a row after one more pair
+module _ (q : Query) (P : Pair → Type 0) (sound : (p : Pair) → P p → JoinablePair (q .graph) p) (p : Pair) where
+  -- the row of its result
+  stood-turn : {old new : Choice} → Stood q P (union p) old → Best (Offers q (bestAt q) p) new → Best (Handed q (bestAt q) (With P p) (union p)) (kept old new)
+  stood-turn {old} {new} (inl x) n = rw (x .1) (row-first q (bestAt q) P p (λ k o. x .0 (o .pair) (o .handed) (o .whole)) n)
+  stood-turn {old} {new} (inr b) n =
+      let o = b .among in
+      let l = offers-some q (o .pair) old (sound (o .pair) (o .handed)) (o .prices) in
+      rw (ne-eqb (old .outer) 0 (λ e. omega arith)) (go (better-one old new))
+    where
+      first : NoLater (better old new) old × NoLater (better old new) new
+      first = better-first old new
+
+      go : (better old new ≡ old) ⊎ (better old new ≡ new) → Best (Handed q (bestAt q) (With P p) (union p)) (better old new)
+      go (inl e) = rw e (row-keep q (bestAt q) P p b n (rw e at (first .1)))
+      go (inr e) = rw e (row-take q (bestAt q) P p b n (rw e at (first .0)))
+
+  -- every other row
+  stood-other : {S : ℕ} {k : Choice} → (union p ≡ S → ⊥) → Stood q P S k → Stood q (With P p) S k
+  stood-other {S} ne (inl x) = inl (λ p′ h w. ⊎-elim (λ a. x .0 p′ a w) (λ e. ne (ap (λ (r : Pair). union r) (sym e) ∙ w)) h, x .1)
+  stood-other ne (inr b) = inr (row-other q (bestAt q) P p ne b)
+
+-- ---- places
+-- the candidate of a place
+pub at-number : (g : Graph) (s : ℕ) (p : Place) → s ≤ tableCount g → At g s p → (p .number < length (met g s)) × (metAt g s (p .number) ≡ candidateAt g s (p .size) (p .row) (p .inner))
+at-number g s p known a =
+    let d = p .size in
+    let i = p .row in
+    let j = p .inner in
+    rw (a .number) (met-inside g s d i j known (a .from-one) (a .to-half) (a .row-from) (a .row-to) (a .inner-from) (a .inner-to), met-at g s d i j known (a .from-one) (a .to-half) (a .row-from) (a .row-to) (a .inner-from) (a .inner-to))
+
+-- its two rows are rows of smaller sizes
+at-smaller : (g : Graph) (s : ℕ) (p : Place) → 2 ≤ s → At g s p → (p .row < startOf g s) × (p .inner < startOf g s)
+at-smaller g s p two a = (omega (arith, a .row-to, a .to-half, start-mono g (p .size + 1) s (omega (arith, a .to-half))), omega (arith, a .inner-to, start-mono g (s - p .size + 1) s (omega (arith, a .from-one, a .to-half))))
+
+-- ---- the three theorems of a size
+module _ (q : Query) (sound : Sound q) (scheme : Scheme) (m s : ℕ) (two : 2 ≤ s) (known : s ≤ tableCount (q .graph)) where
+  -- smaller sizes hold what the search computes
+  final-best : (S : ℕ) (k : Choice) → Connected (q .graph) S → FinalRow q S k → k .cost ≡ bestAt q S
+  final-best S k c f = least-unique (f .least) (best-least q sound S c)
+
+  -- and nothing in them is too large to be priced
+  pub final-below : (S : ℕ) (k : Choice) → FinalRow q S k → k .cost < costBound
+  final-below S k f = least-below q sound S (k .cost) (f .least)
+
+  -- OPENING: where all smaller sizes are final and each worker is at its first joinable pair, the size stands
+  pub standing-open : (workers : List Worker) (c : Columns) → Final q s c → Crew (q .graph) s scheme m workers
+      → ((w : ℕ) → w < m → NextFrom (q .graph) s (workerAt workers w .share) 0 (workerAt workers w .place)) → Standing q scheme m s workers c
+  standing-open workers c f z first = record {
+    crew = z;
+    smaller = f .smaller;
+    rows = λ r a b. inl (λ p x w. none p x, f .larger r a (omega (arith, start-memo (q .graph) (s + 1) (omega arith))));
+    larger = λ r a b. f .larger r (omega (arith, start-mono (q .graph) s (s + 1) (omega arith))) b;
+  }
+    where
+      none : (p : Pair) → Passed (q .graph) scheme m s (placesOf workers) p → ⊥
+      none p x =
+          let e : ownAt (q .graph) s (workerAt workers (x .worker) .share) (x .number) ≡ false = first (x .worker) (x .known) .clear (x .number) (omega arith) (x .before) in
+          not-both (mine (q .graph) scheme m s (x .worker) (metAt (q .graph) s (x .number))) (x .own) (rw (z .share (x .worker) (x .known)) at e)
+
+  -- A TURN keeps it
+  module _ (workers workers′ : List Worker) (old new : Columns) (pair : code.Handed) (w : ℕ) (worker : w < m) (reach : Reach (q .graph) old)
+      (st : Standing q scheme m s workers old) (t : Turned (q .graph) (q .fixed) (q .perOuter) (q .perInner) (q .perResult) s w workers workers′ old new pair) where
+    -- no other worker moves
+    other-worker : (v : ℕ) → (v ≡ w → ⊥) → workerAt workers′ v ≡ workerAt workers v
+    other-worker v n = ap (λ (l : List Worker). workerAt l v) (t .others) ∙ getD-set-other workers w v (workerAt workers′ w) nobody n
+
+    -- with none left nothing changes
+    module _ (none : workerAt workers w .place .left ≡ false) where
+      same-worker : (v : ℕ) → workerAt workers′ v ≡ workerAt workers v
+      same-worker v = go (ℕ-discrete v w)
+        where
+          go : Dec (v ≡ w) → workerAt workers′ v ≡ workerAt workers v
+          go (yes e) = rw e (t .step .none none .0)
+          go (no n) = other-worker v n
+
+      turn-none : Standing q scheme m s workers′ new
+      turn-none = rw (t .step .none none .1) (record {
+        crew = record { ready = λ v l. rw (same-worker v) (st .crew .ready v l); share = λ v l. rw (same-worker v) (st .crew .share v l) };
+        smaller = st .smaller;
+        rows = λ r a b. stood-same q (passed-same (q .graph) scheme m s (placesOf workers) (placesOf workers′) (λ v. sym (there v)))
+            (passed-same (q .graph) scheme m s (placesOf workers′) (placesOf workers) there) refl refl (st .rows r a b);
+        larger = st .larger;
+      })
+        where
+          there : (v : ℕ) → placesOf workers′ v ≡ placesOf workers v
+          there v = ap (λ (x : Worker). x .place .number) (same-worker v)
+
+    -- the pair at its place is handed
+    module _ (left : workerAt workers w .place .left ≡ true) where
+      h : Handing (q .graph) (q .fixed) (q .perOuter) (q .perInner) (q .perResult) s (workerAt workers w) (workerAt workers′ w) old new pair
+      h = t .step .some left
+
+      here : At (q .graph) s (workerAt workers w .place)
+      here = st .crew .ready w worker .waits .there left .0
+
+      number : (workerAt workers w .place .number < length (met (q .graph) s)) × (metAt (q .graph) s (workerAt workers w .place .number) ≡ candidateAt (q .graph) s (workerAt workers w .place .size) (workerAt workers w .place .row) (workerAt workers w .place .inner))
+      number = at-number (q .graph) s (workerAt workers w .place) known here
+
+      p : Pair
+      p = pairAt (q .graph) (workerAt workers w)
+
+      own-mine : (y : ℕ) (b : Bool) → ownAt (q .graph) s (workerAt workers w .share) y ≡ b → mine (q .graph) scheme m s w (metAt (q .graph) s y) ≡ b
+      own-mine y b e = rw (st .crew .share w worker) at e
+
+      to : (p′ : Pair) → Passed (q .graph) scheme m s (placesOf workers′) p′ → With (Passed (q .graph) scheme m s (placesOf workers)) p p′
+      unfolding p
+      to p′ x = ⊎-elim (λ a. inl a) (λ e. inr (e ∙ ap setsOf (number .1))) (passed-to (q .graph) scheme m s (placesOf workers) (placesOf workers′) w worker
+          (λ v n. ap (λ (x : Worker). x .place .number) (other-worker v n)) (number .0) (own-mine _ true (st .crew .ready w worker .waits .there left .1)) (omega (arith, h .next .ahead))
+          (λ y a b. own-mine y false (h .next .clear y a b)) p′ x)
+
+      from : (p′ : Pair) → With (Passed (q .graph) scheme m s (placesOf workers)) p p′ → Passed (q .graph) scheme m s (placesOf workers′) p′
+      unfolding p
+      from p′ x = passed-from (q .graph) scheme m s (placesOf workers) (placesOf workers′) w worker
+          (λ v n. ap (λ (x : Worker). x .place .number) (other-worker v n)) (number .0) (own-mine _ true (st .crew .ready w worker .waits .there left .1)) (omega (arith, h .next .ahead))
+          (λ y a b. own-mine y false (h .next .clear y a b)) p′ (⊎-elim (λ a. inl a) (λ e. inr (e ∙ sym (ap setsOf (number .1)))) x)
+
+      -- the row that it goes to
+      row-inside : h .row < length (memo (q .graph))
+      row-inside = omega (arith, h .row-to, start-memo (q .graph) (s + 1) (omega arith))
+
+      row-best : (r : ℕ) → r < startOf (q .graph) s → getD (old .costs) r 0 ≡ bestAt q (getD (memo (q .graph)) r 0)
+      row-best r l = final-best (getD (memo (q .graph)) r 0) (choiceIn old r) (row-connected (q .graph) r (omega (arith, start-memo (q .graph) s (omega arith)))) (st .smaller r l)
+
+      offers : Best (Offers q (bestAt q) p) (h .offer)
+      unfolding p
+      offers =
+          let X = p .driving in
+          let Y = p .inner in
+          let a = at-smaller (q .graph) s (workerAt workers w .place) two here in
+          best-same (to-offers q X Y) (from-offers q X Y) (rw (row-best _ (a .0), row-best _ (a .1)) at (h .best))
+
+      row-sound : (p′ : Pair) → Passed (q .graph) scheme m s (placesOf workers) p′ → JoinablePair (q .graph) p′
+      row-sound = passed-joinable (q .graph) scheme m s (placesOf workers)
+
+      turn-row : (r : ℕ) → startOf (q .graph) s ≤ r → r < startOf (q .graph) (s + 1) → Dec (r ≡ h .row) → Stood q (Passed (q .graph) scheme m s (placesOf workers′)) (getD (memo (q .graph)) r 0) (choiceIn new r)
+      unfolding p
+      turn-row r a b (yes e) =
+          let k = kept (choiceIn old (h .row)) (h .offer) in
+          let is : choiceIn new r ≡ k = ap (λ (c : Columns). choiceIn c r) (h .changed) ∙ ap (choiceIn (stored old (h .row) k)) e ∙ choice-same (q .graph) old k (h .row) reach row-inside in
+          let set : getD (memo (q .graph)) r 0 ≡ union p = ap (λ (i : ℕ). getD (memo (q .graph)) i 0) e ∙ h .row-set in
+          stood-same q from to set is (inr (stood-turn q (Passed (q .graph) scheme m s (placesOf workers)) row-sound p (rw (h .row-set) at (st .rows (h .row) (h .row-from) (h .row-to))) offers))
+      turn-row r a b (no n) =
+          let k = kept (choiceIn old (h .row)) (h .offer) in
+          let is : choiceIn new r ≡ choiceIn old r = ap (λ (c : Columns). choiceIn c r) (h .changed) ∙ choice-other (q .graph) old k (h .row) r n in
+          let apart : union p ≡ getD (memo (q .graph)) r 0 → ⊥ = λ e. n (once-at (memo (q .graph)) (memo-once (q .graph)) r (h .row) (omega (arith, start-memo (q .graph) (s + 1) (omega arith))) row-inside (sym e ∙ sym (h .row-set))) in
+          stood-same q from to refl is (stood-other q (Passed (q .graph) scheme m s (placesOf workers)) row-sound p apart (st .rows r a b))
+
+      -- rows of other sizes
+      turn-else : (r : ℕ) → (r ≡ h .row → ⊥) → choiceIn new r ≡ choiceIn old r
+      turn-else r n = ap (λ (c : Columns). choiceIn c r) (h .changed) ∙ choice-other (q .graph) old (kept (choiceIn old (h .row)) (h .offer)) (h .row) r n
+
+      -- its worker
+      turn-share : workerAt workers′ w .share ≡ workerAt workers w .share
+      turn-share = ap (λ (x : Worker). x .share) (h .worker)
+
+      turn-ready : Ready (q .graph) s (workerAt workers′ w)
+      turn-ready =
+          let r = st .crew .ready w worker in
+          let count : workerAt workers′ w .handed ≡ workerAt workers w .handed + 1 = ap (λ (x : Worker). x .handed) (h .worker) in
+          record { share = rw turn-share (r .share); waits = rw turn-share (h .next .waits); handed = omega (arith, count, r .handed, h .next .ahead) }
+
+      turn-crew : Crew (q .graph) s scheme m workers′
+      turn-crew = record { ready = λ v l. ready v l (ℕ-discrete v w); share = λ v l. share v l (ℕ-discrete v w) }
+        where
+          ready : (v : ℕ) → v < m → Dec (v ≡ w) → Ready (q .graph) s (workerAt workers′ v)
+          ready v l (yes e) = rw e turn-ready
+          ready v l (no n) = rw (other-worker v n) (st .crew .ready v l)
+
+          share : (v : ℕ) → v < m → Dec (v ≡ w) → workerAt workers′ v .share ≡ shareOf scheme m v (length (met (q .graph) s))
+          share v l (yes e) = rw e (turn-share ∙ st .crew .share w worker)
+          share v l (no n) = ap (λ (x : Worker). x .share) (other-worker v n) ∙ st .crew .share v l
+
+      turn-some : Standing q scheme m s workers′ new
+      turn-some = record {
+        crew = turn-crew;
+        smaller = λ r l. subst (FinalRow q (getD (memo (q .graph)) r 0)) (sym (turn-else r (λ e. omega (arith, h .row-from)))) (st .smaller r l);
+        rows = λ r a b. turn-row r a b (ℕ-discrete r (h .row));
+        larger = λ r a b. turn-else r (λ e. omega (arith, h .row-to)) ∙ st .larger r a b;
+      }
+
+    pub standing-turn : Standing q scheme m s workers′ new
+    standing-turn = ⊎-elim turn-some turn-none (true-or-false (workerAt workers w .place .left))
+
+  -- CLOSING: where no worker has a pair left, the size is final
+  module _ (workers : List Worker) (c : Columns) (some : 0 < m) (st : Standing q scheme m s workers c) (none : (w : ℕ) → w < m → workerAt workers w .place .left ≡ false) where
+    abbrev all : Pair → Type 0
+    all = Passed (q .graph) scheme m s (placesOf workers)
+
+    at-end : (w : ℕ) → w < m → placesOf workers w ≡ length (met (q .graph) s)
+    at-end w l = ap (λ (x : Place). x .number) (st .crew .ready w l .waits .none (none w l))
+
+    -- a joinable candidate was handed
+    handed-all : (X Y : ℕ) → Joinable (q .graph) X Y → Has X Y (candidates (q .graph) s) → all (record { driving = X; inner = Y })
+    unfolding met mine
+    handed-all X Y j p =
+        let n = numbered-in 0 (candidates (q .graph) s) (p .one) (p .met) in
+        let x = n .0 in
+        let i = in-at noCandidate (met (q .graph) s) x (n .1) in
+        let o = met-one (q .graph) scheme m s some x (n .1) in
+        let eX : x .candidate .driving ≡ X = ap (λ (c : Candidate). c .driving) (n .2) ∙ p .driving in
+        let eY : x .candidate .inner ≡ Y = ap (λ (c : Candidate). c .inner) (n .2) ∙ p .inner in
+        record {
+          worker = o .who;
+          known = o .worker;
+          number = i .0;
+          inside = i .1;
+          before = omega (arith, i .1, at-end (o .who) (o .worker));
+          own = rw (i .2) (and-true (owns scheme (length (met (q .graph) s)) m (o .who) x) (joinable (q .graph) (x .candidate)) (o .yes-it) (true-joinable (q .graph) (x .candidate) (rw (eX, eY) j)));
+          is = λ t. record { driving = sym (ap (λ (y : Numbered). y .candidate .driving) (i .2) ∙ eX) t; inner = sym (ap (λ (y : Numbered). y .candidate .inner) (i .2) ∙ eY) t };
+        }
+
+    complete : (S : ℕ) → size S ≡ s → Complete (q .graph) all S
+    complete S e = record {
+      sound = λ p x u. passed-joinable (q .graph) scheme m s (placesOf workers) p x;
+      total = λ p j u. ⊎-elim (λ a. inl (handed-all (p .driving) (p .inner) (j .joinable) a)) (λ a. inr (handed-all (p .inner) (p .driving) (joinable-sym (j .joinable)) a)) (pair-met (q .graph) s p j (ap size u ∙ e));
+    }
+
+    -- its row has a pair, so it is the best over all splits
+    closed-row : (S : ℕ) (k : Choice) → Connected (q .graph) S → size S ≡ s → Stood q all S k → FinalRow q S k
+    closed-row S k cn e (inl x) =
+        let a = connected-split (q .graph) S cn (omega arith) in
+        let p : Pair = record { driving = a .part; inner = single (a .last) } in
+        let j : JoinablePair (q .graph) p = record { driving-conn = a .connected; inner-conn = connected-single (q .graph) (a .last) (a .table); joinable = record { apart = a .splits .apart; between = a .between } } in
+        absurd (⊎-elim (λ h. x .0 p h (a .splits .whole)) (λ h. x .0 (record { driving = p .inner; inner = p .driving }) h (add-comm (p .inner) (p .driving) ∙ a .splits .whole)) (complete S e .total p j (a .splits .whole)))
+    closed-row S k cn e (inr b) =
+        let final = row-final q (bestAt q) all S (complete S e) b in
+        record {
+          least = bellman-least q (bestAt q) S (omega arith) (λ Y cy l. best-least q sound Y cy) final;
+          one = λ l. absurd (omega arith);
+          more = λ l. bellman-pick q (bestAt q) S l (λ Y cy u. best-least q sound Y cy) final;
+        }
+
+    pub standing-closed : Final q (s + 1) c
+    standing-closed = record { smaller = λ r l. go r l (decLt r (startOf (q .graph) s)); larger = st .larger }
+      where
+        go : (r : ℕ) → r < startOf (q .graph) (s + 1) → Dec (r < startOf (q .graph) s) → FinalRow q (getD (memo (q .graph)) r 0) (choiceIn c r)
+        go r l (yes u) = st .smaller r u
+        go r l (no z) =
+            let i : r < length (memo (q .graph)) = omega (arith, start-memo (q .graph) (s + 1) (omega arith)) in
+            let e : getD (memo (q .graph)) r 0 ≡ getD (rowsOf (q .graph) s) (r - startOf (q .graph) s) 0 = memo-row (q .graph) s r (omega arith) known (omega arith) l in
+            let n : size (getD (memo (q .graph)) r 0) ≡ s = rw e (rows-only (q .graph) s _ (at-in 0 (rowsOf (q .graph) s) (r - startOf (q .graph) s) (omega (arith, start-next (q .graph) s (omega arith)))) .1) in
+            closed-row (getD (memo (q .graph)) r 0) (choiceIn c r) (row-connected (q .graph) r i) n (st .rows r (omega arith) l)
