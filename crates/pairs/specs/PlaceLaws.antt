@@ -5,6 +5,7 @@ use mathlib.Core.Bool.{Bool, true, false, cond}
 use mathlib.Core.List.{List, [], _∷_, _++_}
 use Prim.Native.Nat.{ℕ, zero, suc, _+_, _-_, _*_, _/_, _≤_, _<_}
 use native.Mathlib.Nat.{zero-add}
+use native.Mathlib.Decide.{decLt}
 use native.Mathlib.Omega.{arith}
 use lib.Dec.{eqb}
 use lib.ListN.{length, getD, drop, length-append, length-drop, List·getD-append}
@@ -19,13 +20,13 @@ use Rattle.rules.specs.Shares.{numbered, met}
 use Rattle.rules.specs.laws.Bools.{true-or-false}
 use Rattle.rules.specs.laws.Candidates.{numbered-length}
 use Rattle.memo.specs.Walk.{upTo}
-use Rattle.memo.specs.WalkLaws.{length-more, rows-fit}
+use Rattle.memo.specs.WalkLaws.{length-more, rows-fit, rows-walk, walk-few}
 use Rattle.pairs.specs.Shares.{few}
 use Rattle.pairs.specs.Places.{startOf, firstRow, endRow, rowsAhead, sizesAhead, aheadOf, candidateAt, noCandidate}
 
 -- ---- lists in a row
 -- one list more
-row-next : {C : Type 0} (f : ℕ → List C) (k n : ℕ) → length (inRow f k (suc n)) ≡ length (inRow f k n) + length (f (k + n))
+pub row-next : {C : Type 0} (f : ℕ → List C) (k n : ℕ) → length (inRow f k (suc n)) ≡ length (inRow f k n) + length (f (k + n))
 unfolding inRow
 row-next f k zero =
     let e : k + 0 ≡ k = omega arith in
@@ -68,11 +69,6 @@ module _ (g : Graph) where
       let f : k - 1 + 1 ≡ k = omega arith in
       ap (λ (x : ℕ). length (upTo g x)) e ∙ length-more g (k - 1) ∙ ap (λ (x : ℕ). startOf g k + length (rowsOf g x)) f
 
-  -- the rows of size 1 come first
-  pub start-one : startOf g 1 ≡ 0
-  unfolding inRow
-  start-one = refl
-
   -- a larger size does not begin before a smaller one
   pub start-mono : (j k : ℕ) → j ≤ k → startOf g j ≤ startOf g k
   start-mono j k h = row-mono (rowsOf g) 1 (j - 1) (k - 1) (omega arith)
@@ -86,21 +82,40 @@ module _ (g : Graph) where
   pub start-memo : (k : ℕ) → k ≤ tableCount g + 1 → startOf g k ≤ length (memo g)
   start-memo k h = omega (arith, start-end, start-mono k (tableCount g + 1) h)
 
-  -- row p of the memo is a row of its size
-  pub memo-row : (k p : ℕ) → 1 ≤ k → k ≤ tableCount g → startOf g k ≤ p → p < startOf g (k + 1) → getD (memo g) p 0 ≡ getD (rowsOf g k) (p - startOf g k) 0
-  unfolding memo
-  memo-row k p l u a b =
-      let e : 1 + (k - 1) ≡ k = omega arith in
-      let f : startOf g k + (p - startOf g k) ≡ p = omega arith in
-      let h : p - startOf g k < length (rowsOf g k) = omega (arith, start-next k l) in
-      rw (f, e) at (row-at (rowsOf g) 0 1 (k - 1) (tableCount g) (p - startOf g k) (omega arith) (rw e h))
+  -- row p is one of size k
+  module _ (k p : ℕ) (from-one : 1 ≤ k) (from : startOf g k ≤ p) (to : p < startOf g (k + 1)) where
+    -- its place within the size, from 0, is below the size's count
+    pub in-size : p - startOf g k < length (rowsOf g k)
+    in-size = omega (arith, start-next k from-one)
+
+    -- only sizes up to N have rows
+    pub size-known : k ≤ tableCount g
+    size-known = go (decLt (tableCount g) k)
+      where
+        go : Dec (tableCount g < k) → k ≤ tableCount g
+        go (yes l) = absurd (omega (arith, in-size, ap length (rows-walk g k ∙ walk-few g k 1 (tableCount g) 0 l)))
+        go (no n) = omega arith
+
+    -- it is a row of the memo
+    pub memo-inside : p < length (memo g)
+    memo-inside = omega (arith, size-known, start-memo (k + 1) (omega (arith, size-known)))
+
+    -- the memo holds the rows of each size
+    pub memo-row : getD (memo g) p 0 ≡ getD (rowsOf g k) (p - startOf g k) 0
+    unfolding memo
+    memo-row =
+        let e : 1 + (k - 1) ≡ k = omega arith in
+        let f : startOf g k + (p - startOf g k) ≡ p = omega arith in
+        rw (f, e) at (row-at (rowsOf g) 0 1 (k - 1) (tableCount g) (p - startOf g k) (omega (arith, size-known)) (rw e in-size))
 
 -- ---- the candidates of one driving row
-with-length : (D i X j : ℕ) (ys : List ℕ) → length (withRow D i X j ys) ≡ length ys
+-- as many as inner rows
+pub with-length : (D i X j : ℕ) (ys : List ℕ) → length (withRow D i X j ys) ≡ length ys
 unfolding withRow
 with-length D i X j [] = refl
 with-length D i X j (Y ∷ ys) = ap suc (with-length D i X (suc j) ys)
 
+-- each with its inner row
 with-at : (D i X j r : ℕ) (ys : List ℕ) → r < length ys → getD (withRow D i X j ys) r (noCandidate .candidate) ≡ record { rows = D; row = i; count = j + r; driving = X; inner = getD ys r 0 }
 unfolding withRow
 with-at D i X j r [] h = absurd (omega arith)
@@ -194,7 +209,7 @@ module _ (g : Graph) (s d : ℕ) where
         omega (arith, ap length driven-rows, rows-ahead q, row-inside metBy 0 q D r a (rw zero-add h))
 
     module _ (i : ℕ) (row-from : startOf g d ≤ i) where
-      -- the first inner row is not before the inner size's first row
+      -- the first inner row of driving row i is not before the inner size's first row
       pub first-from : startOf g (s - d) ≤ firstRow g s d i
       first-from = go (true-or-false (eqb (d + d) s))
         where
@@ -205,7 +220,7 @@ module _ (g : Graph) (s d : ℕ) where
           go (inr e) = rw e (omega arith)
 
       module _ (row-to : i < startOf g (d + 1)) where
-        -- nor after its last
+        -- nor after its end
         pub first-le : firstRow g s d i ≤ endRow g s d
         first-le = go (true-or-false (eqb (d + d) s))
           where
@@ -216,8 +231,8 @@ module _ (g : Graph) (s d : ℕ) where
             go (inr e) = rw e (start-mono g (s - d) (s - d + 1) (omega arith))
 
         -- the set of inner row j
-        inner-at : (j : ℕ) → s ≤ tableCount g → firstRow g s d i ≤ j → j < endRow g s d → getD (innerRows (i - startOf g d)) (j - firstRow g s d i) 0 ≡ getD (memo g) j 0
-        inner-at j known a b = go (true-or-false (eqb (d + d) s)) a b
+        inner-at : (j : ℕ) → firstRow g s d i ≤ j → j < endRow g s d → getD (innerRows (i - startOf g d)) (j - firstRow g s d i) 0 ≡ getD (memo g) j 0
+        inner-at j a b = go (true-or-false (eqb (d + d) s)) a b
           where
             go : (eqb (d + d) s ≡ true) ⊎ (eqb (d + d) s ≡ false) → firstRow g s d i ≤ j → j < endRow g s d → getD (innerRows (i - startOf g d)) (j - firstRow g s d i) 0 ≡ getD (memo g) j 0
             go (inl e) a b =
@@ -225,10 +240,10 @@ module _ (g : Graph) (s d : ℕ) where
                 let a′ : i + 1 ≤ j = rw e at a in
                 let b′ : j < startOf g (d + 1) = rw f at b in
                 let k : suc (i - startOf g d) + (j - (i + 1)) ≡ j - startOf g d = omega arith in
-                rw e (getD-drop (suc (i - startOf g d)) (rowsOf g d) (j - (i + 1)) 0 ∙ ap (λ (x : ℕ). getD (rowsOf g d) x 0) k ∙ sym (memo-row g d j from-one (omega arith) (omega arith) b′))
+                rw e (getD-drop (suc (i - startOf g d)) (rowsOf g d) (j - (i + 1)) 0 ∙ ap (λ (x : ℕ). getD (rowsOf g d) x 0) k ∙ sym (memo-row g d j from-one (omega arith) b′))
             go (inr e) a b =
                 let a′ : startOf g (s - d) ≤ j = rw e at a in
-                rw e (sym (memo-row g (s - d) j (omega arith) (omega arith) a′ b))
+                rw e (sym (memo-row g (s - d) j (omega arith) a′ b))
 
 -- ---- all driving sizes
 module _ (g : Graph) (s : ℕ) where
@@ -270,10 +285,7 @@ numbered-at n zero (c ∷ cs) h = let e : n + 0 ≡ n = omega arith in rw e
 numbered-at n (suc p) (c ∷ cs) h = let e : n + suc p ≡ suc n + p = omega arith in rw e (numbered-at (suc n) p cs (omega arith))
 
 -- ---- the candidate of driving row i of size d and inner row j
-module _ (g : Graph) (s d i j : ℕ) (known : s ≤ tableCount g) (from-one : 1 ≤ d) (to-half : d ≤ s / 2) (row-from : startOf g d ≤ i) (row-to : i < startOf g (d + 1)) (inner-from : firstRow g s d i ≤ j) (inner-to : j < endRow g s d) where
-  row-known : i - startOf g d < length (rowsOf g d)
-  row-known = omega (arith, start-next g d from-one)
-
+module _ (g : Graph) (s d i j : ℕ) (from-one : 1 ≤ d) (to-half : d ≤ s / 2) (row-from : startOf g d ≤ i) (row-to : i < startOf g (d + 1)) (inner-from : firstRow g s d i ≤ j) (inner-to : j < endRow g s d) where
   inner-known : j - firstRow g s d i < length (innerRows g s d (i - startOf g d))
   inner-known =
       let e : startOf g d + (i - startOf g d) ≡ i = omega arith in
@@ -282,7 +294,7 @@ module _ (g : Graph) (s d i j : ℕ) (known : s ≤ tableCount g) (from-one : 1 
   driven-known : rowsAhead g s d (i - startOf g d) + (j - firstRow g s d i) < length (driven (rowsOf g) s (1 + (d - 1)))
   driven-known =
       let e : 1 + (d - 1) ≡ d = omega arith in
-      rw e (driven-inside g s d from-one to-half (i - startOf g d) (j - firstRow g s d i) row-known inner-known)
+      rw e (driven-inside g s d from-one to-half (i - startOf g d) (j - firstRow g s d i) (in-size g d i from-one row-from row-to) inner-known)
 
   number-is : aheadOf g s d i + (j - firstRow g s d i) ≡ length (inRow (driven (rowsOf g) s) 1 (d - 1)) + (rowsAhead g s d (i - startOf g d) + (j - firstRow g s d i))
   number-is = omega (arith, sizes-ahead g s (d - 1) (omega arith))
@@ -300,9 +312,9 @@ module _ (g : Graph) (s d i j : ℕ) (known : s ≤ tableCount g) (from-one : 1 
       ap (λ (n : ℕ). getD (candidates g s) n (noCandidate .candidate)) number-is
       ∙ row-at (driven (rowsOf g) s) (noCandidate .candidate) 1 (d - 1) (s / 2) (rowsAhead g s d q + r) (omega arith) driven-known
       ∙ ap (λ (x : ℕ). getD (driven (rowsOf g) s x) (rowsAhead g s d q + r) (noCandidate .candidate)) e
-      ∙ driven-at g s d from-one to-half q r row-known inner-known
-      ∙ ap₂ (λ (X Y : ℕ). record { rows = length (rowsOf g d); row = q; count = r; driving = X; inner = Y }) (sym (memo-row g d i from-one (omega arith) row-from row-to))
-      (inner-at g s d from-one to-half i row-from row-to j known inner-from inner-to)
+      ∙ driven-at g s d from-one to-half q r (in-size g d i from-one row-from row-to) inner-known
+      ∙ ap₂ (λ (X Y : ℕ). record { rows = length (rowsOf g d); row = q; count = r; driving = X; inner = Y }) (sym (memo-row g d i from-one row-from row-to))
+      (inner-at g s d from-one to-half i row-from row-to j inner-from inner-to)
 
   -- it is one of the size's candidates
   pub met-inside : aheadOf g s d i + (j - firstRow g s d i) < length (met g s)

@@ -4,7 +4,8 @@ use mathlib.Core.Bool.{Bool, true, false, cond}
 use mathlib.Core.List.{List}
 use Prim.Native.Nat.{ℕ, zero, suc, _+_, _-_, _*_, _/_, _%_, _^_, _≤_, _<_}
 use lib.Dec.{eqb}
-use lib.ListN.{length, getD, take}
+use lib.ListN.{length, getD, take, drop}
+use Rattle.rules.specs.Lists.{keep}
 use Rattle.rules.specs.Sets.{holds, Disjoint, size, rank}
 use Rattle.rules.specs.Query.{Graph, tableCount}
 use Rattle.rules.specs.Rows.{rowsOf, memo}
@@ -70,6 +71,10 @@ metAt g s p = getD (met g s) p noCandidate
 -- the share's worker has candidate p and may join it
 abbrev pub ownAt : Graph → ℕ → Share → ℕ → Bool
 ownAt g s h p = mine g (h .scheme) (h .workers) s (h .worker) (metAt g s p)
+
+-- what is left to a worker from candidate p on
+abbrev pub queueAt : Graph → ℕ → Share → ℕ → List Numbered
+queueAt g s h p = keep (mine g (h .scheme) (h .workers) s (h .worker)) (drop p (met g s))
 
 -- ---- the memo as laying out leaves it, with where the rows and the cells of each size begin
 pub record Ground (g : Graph) (sets cells starts cellStarts : List ℕ) : Type 0 where

@@ -55,12 +55,15 @@ stride-gap k j p a b e =
     omega (arith, mod-eq-of-lt l)
 
 -- ---- the first row of the stride that is not before `to`
+-- where all rows are on the stride, it is `to`
 pub aligned-one : (j to step : ℕ) → step ≡ 1 → Aligned j to step to
 aligned-one j to step e = rw e (record { reached = omega arith; near = omega arith; on = mod-one (to - j) })
 
+-- where one step reaches `to`, it is one step on
 pub aligned-next : (j to step : ℕ) → j < to → to ≤ j + step → Aligned j to step (j + step)
 aligned-next j to step a b = let e : j + step - j ≡ step = omega arith in record { reached = b; near = omega arith; on = rw e (mod-self step) }
 
+-- in general, the steps to it are a quotient rounded up
 pub aligned-far : (j to step : ℕ) → j < to → 1 ≤ step → Aligned j to step (j + (to - j + step - 1) / step * step)
 aligned-far j to step a b =
     let n = to - j + step - 1 in
@@ -72,6 +75,7 @@ aligned-far j to step a b =
     }
 
 -- ---- the rows of a span
+-- an inner row of a span is inside it and on its stride
 pub span-true : (own : Span) (j : ℕ) → inSpan own j ≡ true → (own .from ≤ j) × (j < own .end) × ((j - own .from) % own .step ≡ 0)
 span-true own j e =
     let a = leb (own .from) j in
@@ -80,6 +84,7 @@ span-true own j e =
     let f : (b && c) ≡ true = and-true-r a (b && c) e in
     (leb-true (own .from) j (and-true-l a (b && c) e), ltb-true j (own .end) (and-true-l b c f), eqb-true ((j - own .from) % own .step) 0 (and-true-r b c f))
 
+-- one that is inside it and on its stride is of the span
 pub true-span : (own : Span) (j : ℕ) → own .from ≤ j → j < own .end → (j - own .from) % own .step ≡ 0 → inSpan own j ≡ true
 true-span own j a b c = rw (le-leb (own .from) j a, lt-ltb j (own .end) b, eq-eqb ((j - own .from) % own .step) 0 c)
 
@@ -89,6 +94,7 @@ both-ways true b f k = sym (f refl)
 both-ways false true f k = k refl
 both-ways false false f k = refl
 
+-- all inner rows of a driving row, or none
 all-span : (b : Bool) (first end j : ℕ) → first ≤ j → j < end → b ≡ inSpan (allSpan b first end) j
 all-span true first end j l u = sym (true-span (spans first end 1) j l u (mod-one (j - first)))
 all-span false first end j l u = rw (lt-leb end j u)
@@ -102,6 +108,7 @@ clip-end b x first end j l u = go (true-or-false (ltb b (x + (end - first))))
     go (inl e) = rw e (λ h. omega arith, λ h. omega arith)
     go (inr e) = rw e (λ h. omega (arith, ltb-false b (x + (end - first)) e), λ h. u)
 
+-- those whose numbers are from a up to, not including, b
 clip-span : (a b x first end j : ℕ) → first ≤ j → j < end → (leb a (x + (j - first)) && ltb (x + (j - first)) b) ≡ inSpan (clipped a b x first end) j
 clip-span a b x first end j l u = both-ways (leb a n && ltb n b) (inSpan own j) to back
   where
@@ -274,9 +281,10 @@ module _ (h : Share) (z : ShareFits h) where
   on-by-lies DealRows x j end l u = all-lies true (j + 1) end (omega arith) u
   on-by-lies DealInner x j end l u = record { some-step = z .some-worker; few-step = omega (arith, z .few-workers); after = omega (arith, z .some-worker); near = omega (arith, z .few-workers); ends = omega arith }
 
-  -- what is left of it after its own inner row j: nothing at or before j
+  -- what is left of it after its own inner row j
   pub on-lies : (x j end : ℕ) → j < end → end ≤ few → Lies (j + 1) end (onSpan h x j end)
   on-lies = on-by-lies (h .scheme)
 
+  -- nothing of that lies at or before j
   pub on-after : (x j end p : ℕ) → j < end → end ≤ few → inSpan (onSpan h x j end) p ≡ true → j < p
   on-after x j end p l u t = omega (arith, on-lies x j end l u .after, span-true (onSpan h x j end) p t .0)
