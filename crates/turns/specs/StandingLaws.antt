@@ -39,7 +39,8 @@ use Rattle.pairs.specs.declared.places.Place.{Place}
 use Rattle.turns.specs.declared.turn.Handed as code
 use Rattle.pairs.specs.Shares.{few, ShareOf, shareOf}
 use Rattle.pairs.specs.Places.{startOf, metAt, noCandidate, candidateAt, At, ownAt, nowhere, Waits, NextFrom}
-use Rattle.pairs.specs.PlaceLaws.{start-next, start-mono, start-memo, memo-row, met-at, met-inside}
+use Rattle.pairs.specs.PlaceLaws.{start-next, start-mono, start-memo, memo-row}
+use Rattle.pairs.specs.GroundLaws.{at-number}
 use Rattle.results.specs.Prices.{choiceAt, kept, OneWay, BothWays}
 use Rattle.turns.specs.Standing.{Columns, choiceIn, stored, unset, Reach, Ready, nobody, workerAt, Crew, setsOf, pairAt, Handing, Stepped, Turned, Passed, Stood, FinalRow, Final, placesOf, Standing}
 
@@ -170,15 +171,7 @@ module _ (q : Query) (P : Pair → Type 0) (sound : (p : Pair) → P p → Joina
   stood-other ne (inr b) = inr (row-other q (bestAt q) P p ne b)
 
 -- ---- places
--- the candidate of a place
-pub at-number : (g : Graph) (s : ℕ) (p : Place) → s ≤ tableCount g → At g s p → (p .number < length (met g s)) × (metAt g s (p .number) ≡ candidateAt g s (p .size) (p .row) (p .inner))
-at-number g s p known a =
-    let d = p .size in
-    let i = p .row in
-    let j = p .inner in
-    rw (a .number) (met-inside g s d i j known (a .from-one) (a .to-half) (a .row-from) (a .row-to) (a .inner-from) (a .inner-to), met-at g s d i j known (a .from-one) (a .to-half) (a .row-from) (a .row-to) (a .inner-from) (a .inner-to))
-
--- its two rows are rows of smaller sizes
+-- the two rows of a place are rows of smaller sizes
 at-smaller : (g : Graph) (s : ℕ) (p : Place) → 2 ≤ s → At g s p → (p .row < startOf g s) × (p .inner < startOf g s)
 at-smaller g s p two a = (omega (arith, a .row-to, a .to-half, start-mono g (p .size + 1) s (omega (arith, a .to-half))), omega (arith, a .inner-to, start-mono g (s - p .size + 1) s (omega (arith, a .from-one, a .to-half))))
 
@@ -244,7 +237,7 @@ module _ (q : Query) (sound : Sound q) (scheme : Scheme) (m s : ℕ) (two : 2 �
       here = st .crew .ready w worker .waits .there left .0
 
       number : (workerAt workers w .place .number < length (met (q .graph) s)) × (metAt (q .graph) s (workerAt workers w .place .number) ≡ candidateAt (q .graph) s (workerAt workers w .place .size) (workerAt workers w .place .row) (workerAt workers w .place .inner))
-      number = at-number (q .graph) s (workerAt workers w .place) known here
+      number = at-number (q .graph) s (workerAt workers w .place) here
 
       p : Pair
       p = pairAt (q .graph) (workerAt workers w)
@@ -387,6 +380,6 @@ module _ (q : Query) (sound : Sound q) (scheme : Scheme) (m s : ℕ) (two : 2 �
         go r l (yes u) = st .smaller r u
         go r l (no z) =
             let i : r < length (memo (q .graph)) = omega (arith, start-memo (q .graph) (s + 1) (omega arith)) in
-            let e : getD (memo (q .graph)) r 0 ≡ getD (rowsOf (q .graph) s) (r - startOf (q .graph) s) 0 = memo-row (q .graph) s r (omega arith) known (omega arith) l in
+            let e : getD (memo (q .graph)) r 0 ≡ getD (rowsOf (q .graph) s) (r - startOf (q .graph) s) 0 = memo-row (q .graph) s r (omega arith) (omega arith) l in
             let n : size (getD (memo (q .graph)) r 0) ≡ s = rw e (rows-only (q .graph) s _ (at-in 0 (rowsOf (q .graph) s) (r - startOf (q .graph) s) (omega (arith, start-next (q .graph) s (omega arith)))) .1) in
             closed-row (getD (memo (q .graph)) r 0) (choiceIn c r) (row-connected (q .graph) r i) n (st .rows r (omega arith) l)
