@@ -5,3 +5,4 @@ pub mod Places
 pub mod PlaceLaws
 pub mod SpanLaws
 pub mod GroundLaws
+pub mod FindLaws

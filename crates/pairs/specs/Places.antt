@@ -133,6 +133,7 @@ pub record RowFrom (g : Graph) (s d i x : ℕ) : Type 0 where
   pub to-half : d ≤ s / 2 + 1
   pub row-from : startOf g d ≤ i
   pub row-to : i ≤ startOf g (d + 1)
+  pub at-end : s / 2 < d → i ≡ startOf g d
   pub ahead : x ≡ aheadOf g s d i
 
 -- the place is that of a candidate of size s

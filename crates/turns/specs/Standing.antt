@@ -59,7 +59,7 @@ pub record Board (g : Graph) (fixed outer inner result sets estimates cells star
   pub known : s ≤ tableCount g
   pub methods : Methods fixed outer inner result
   pub ground : Ground g sets cells starts cellStarts
-  pub estimates : take (length (memo g)) estimates ≡ map (estimate g) (memo g)
+  pub estimated : take (length (memo g)) estimates ≡ map (estimate g) (memo g)
   pub reach : Reach g c
   pub below : (r : ℕ) → r < startOf g s → getD (c .costs) r 0 < costBound
 

@@ -1,0 +1,212 @@
+-- How the search goes through driving rows: what a row that is done, a size that is done and a pair that is found tell of the next pair.
+use mathlib.Core.Path.{_≡_, refl, sym, ap, _∙_}
+use mathlib.Core.Bool.{Bool, true, false, cond}
+use mathlib.Core.List.{List}
+use Prim.Native.Nat.{ℕ, suc, _+_, _-_, _/_, _≤_, _<_}
+use native.Mathlib.Decide.{decLt}
+use native.Mathlib.Numerals.{add-one}
+use native.Mathlib.Omega.{arith}
+use lib.Dec.{eqb}
+use lib.ListN.{length, getD, length-take}
+use Rattle.rules.specs.Query.{Graph, tableCount}
+use Rattle.rules.specs.Checked.{GoodGraph}
+use Rattle.rules.specs.Rows.{rowsOf, memo}
+use Rattle.rules.specs.Shares.{met}
+use Rattle.rules.specs.laws.Bools.{not-both}
+use Rattle.pairs.specs.declared.places.Place.{Place}
+use Rattle.pairs.specs.declared.shares.Share.{Share}
+use Rattle.pairs.specs.declared.shares.Span.{Span}
+use Rattle.pairs.specs.Shares.{few, ShareFits, ShareOf, spanOf, onSpan, inSpan}
+use Rattle.pairs.specs.Joinable.{isJoinable}
+use Rattle.pairs.specs.Places.{startOf, cellOf, firstOf, firstRow, endRow, aheadOf, ownAt, countAt, countTo, Ground, SpanCells, Along, RowFrom, At, nowhere, NextFrom}
+use Rattle.pairs.specs.PlaceLaws.{start-next, start-mono, start-memo, ahead-row, ahead-size, ahead-zero, ahead-end, first-from, first-le, memo-few, memo-inside, ahead-met, met-few}
+use Rattle.pairs.specs.SpanLaws.{span-true, share-total, share-fits, Lies, span-lies, on-lies, on-after}
+use Rattle.pairs.specs.GroundLaws.{ground-cells, own-at, not-own, own-on, not-on, at-number}
+
+-- the worker may join none of the candidates x to y
+abbrev pub Clear : Graph → ℕ → Share → ℕ → ℕ → Type 0
+Clear g s h x y = (n : ℕ) → x ≤ n → n < y → ownAt g s h n ≡ false
+
+pub clear-none : (g : Graph) (s : ℕ) (h : Share) (x : ℕ) → Clear g s h x x
+clear-none g s h x n a b = absurd (omega arith)
+
+pub clear-on : (g : Graph) (s : ℕ) (h : Share) (x y z : ℕ) → Clear g s h x y → Clear g s h y z → Clear g s h x z
+clear-on g s h x y z p q n a b = go (decLt n y)
+  where
+    go : Dec (n < y) → ownAt g s h n ≡ false
+    go (yes l) = p n a l
+    go (no f) = q n (omega arith) b
+
+module _ (g : Graph) (sets cells starts cellStarts : List ℕ) (z : Ground g sets cells starts cellStarts) where
+  -- the first inner row, as the table of starts says
+  pub first-known : (s d i : ℕ) → 1 ≤ d → d ≤ s / 2 → s ≤ tableCount g → firstOf starts s d i ≡ firstRow g s d i
+  first-known s d i a b k = ap (λ (n : ℕ). cond (eqb (d + d) s) (i + 1) n) (z .starts-known (s - d) (omega arith) (omega arith))
+
+  module _ (good : GoodGraph g) (s : ℕ) (h : Share) (sh : ShareOf g s h) where
+    long : (n : ℕ) → n ≤ length (memo g) → n ≤ length sets
+    long n l = omega (arith, length-take (length (memo g)) sets, ap length (z .sets-laid))
+
+    -- ---- driving row i of size d, of which x is the first candidate
+    module _ (d i x : ℕ) (at : RowFrom g s d i x) (half : d ≤ s / 2) (more : i < startOf g (d + 1)) where
+      abbrev own : Span
+      own = spanOf h (aheadOf g s d i) (length (rowsOf g d)) (i - startOf g d) (firstRow g s d i) (endRow g s d)
+
+      few-end : endRow g s d ≤ few
+      few-end = omega (arith, start-memo g (s - d + 1) (omega (arith, at .known, at .from-one)), memo-few g good)
+
+      lies : Lies (firstRow g s d i) (endRow g s d) own
+      lies = span-lies h (share-fits g s h sh good (at .known)) (aheadOf g s d i) (length (rowsOf g d)) (i - startOf g d) (firstRow g s d i) (endRow g s d) (first-le g s d (at .from-one) half i (at .row-from) more) few-end
+
+      -- the worker's rows of it have their cells
+      pub row-cells : SpanCells sets cells (startOf g (s - d)) (cellOf g (s - d)) (s - d) own
+      row-cells = record {
+        some-step = lies .some-step;
+        few-step = lies .few-step;
+        inside = omega (arith, lies .ends, long (endRow g s d) (start-memo g (s - d + 1) (omega (arith, at .known, at .from-one))));
+        rows = λ p a b. ground-cells g sets cells starts cellStarts z good (s - d) p (omega (arith, half, at .two)) (omega (arith, lies .after, first-from g s d (at .from-one) half i (at .row-from))) (omega (arith, lies .ends));
+      }
+
+      -- it is done: none of the worker's rows may be joined
+      module _ (none : (p : ℕ) → inSpan own p ≡ true → isJoinable g (getD sets i 0) (getD sets p 0) ≡ false) where
+        pub row-clear : Clear g s h x (x + (endRow g s d - firstRow g s d i))
+        row-clear n a b =
+            let f = firstRow g s d i in
+            let e : aheadOf g s d i + (f + (n - x) - f) ≡ n = omega (arith, at .ahead) in
+            rw e at (not-own g sets cells starts cellStarts z s h sh d i (f + (n - x)) (at .from-one) half (at .row-from) more (omega arith) (omega arith) (none (f + (n - x))))
+
+        pub row-next : RowFrom g s d (i + 1) (x + (endRow g s d - firstRow g s d i))
+        row-next = record {
+          two = at .two;
+          known = at .known;
+          from-one = at .from-one;
+          to-half = at .to-half;
+          row-from = omega (arith, at .row-from);
+          row-to = omega arith;
+          at-end = λ q. absurd (omega arith);
+          ahead = omega (arith, at .ahead, ahead-row g s d i (at .row-from));
+        }
+
+      -- its row j is found
+      pub row-found : (x₀ j : ℕ) → x₀ ≤ x → Clear g s h x₀ x → inSpan own j ≡ true → isJoinable g (getD sets i 0) (getD sets j 0) ≡ true → ((p : ℕ) → inSpan own p ≡ true → p < j → isJoinable g (getD sets i 0) (getD sets p 0) ≡ false)
+          → NextFrom g s h x₀ (record { left = true; size = d; row = i; inner = j; number = x + (j - firstRow g s d i) })
+      row-found x₀ j a c t e before =
+          let f = firstRow g s d i in
+          let k = span-true own j t in
+          let l : f ≤ j = omega (arith, lies .after, k .0) in
+          let u : j < endRow g s d = omega (arith, lies .ends, k .1) in
+          let o : ownAt g s h (x + (j - f)) ≡ true = rw (at .ahead) (own-at g sets cells starts cellStarts z s h sh d i j (at .from-one) half (at .row-from) more l u t e) in
+          record {
+            waits = record {
+              there = λ _. (record { from-one = at .from-one; to-half = half; row-from = at .row-from; row-to = more; inner-from = l; inner-to = u; number = ap (λ (y : ℕ). y + (j - f)) (at .ahead) }, o);
+              none = λ q. absurd (not-both true refl q);
+            };
+            ahead = omega arith;
+            clear = clear-on g s h x₀ x (x + (j - f)) c (λ n p q.
+                let r : aheadOf g s d i + (f + (n - x) - f) ≡ n = omega (arith, at .ahead) in
+                rw r at (not-own g sets cells starts cellStarts z s h sh d i (f + (n - x)) (at .from-one) half (at .row-from) more (omega arith) (omega arith) (λ y. before (f + (n - x)) y (omega arith))));
+          }
+
+    -- ---- a size of driving rows is done
+    pub size-next : (d i x : ℕ) → RowFrom g s d i x → d ≤ s / 2 → startOf g (d + 1) ≤ i → RowFrom g s (d + 1) i x
+    size-next d i x at half l =
+        let e : i ≡ startOf g (d + 1) = omega (arith, at .row-to) in
+        record {
+          two = at .two;
+          known = at .known;
+          from-one = omega arith;
+          to-half = omega arith;
+          row-from = l;
+          row-to = omega (arith, start-mono g (d + 1) (d + 1 + 1) (omega arith));
+          at-end = λ _. e;
+          ahead = at .ahead ∙ ap (aheadOf g s d) e ∙ sym (ahead-size g s d (at .from-one)) ∙ ap (aheadOf g s (d + 1)) (sym e);
+        }
+
+    -- all are done
+    pub none-left : (d i x x₀ : ℕ) → RowFrom g s d i x → s / 2 < d → x₀ ≤ x → Clear g s h x₀ x → NextFrom g s h x₀ (nowhere (h .total))
+    none-left d i x x₀ at l a c =
+        let e : d ≡ s / 2 + 1 = omega (arith, at .to-half) in
+        let total = share-total g s h sh in
+        let n : x ≡ h .total = at .ahead ∙ ap (aheadOf g s d) (at .at-end l) ∙ ap (λ (y : ℕ). aheadOf g s y (startOf g y)) e ∙ ahead-end g s ∙ sym total in
+        record {
+          waits = record { there = λ q. absurd (not-both false q refl); none = λ _. ap nowhere total };
+          ahead = omega arith;
+          clear = rw n at c;
+        }
+
+    -- ---- after a pair of the worker's, in its driving row
+    module _ (p : Place) (here : At g s p) (is : ownAt g s h (p .number) ≡ true) (known : s ≤ tableCount g) (two : 2 ≤ s) where
+      abbrev on : Span
+      on = onSpan h (p .number) (p .inner) (endRow g s (p .size))
+
+      on-inside : Lies (p .inner + 1) (endRow g s (p .size)) on
+      on-inside = on-lies h (share-fits g s h sh good known) (p .number) (p .inner) (endRow g s (p .size)) (here .inner-to) (omega (arith, start-memo g (s - p .size + 1) (omega (arith, known, here .from-one, here .to-half)), memo-few g good))
+
+      pub on-cells : SpanCells sets cells (startOf g (s - p .size)) (cellOf g (s - p .size)) (s - p .size) on
+      on-cells = record {
+        some-step = on-inside .some-step;
+        few-step = on-inside .few-step;
+        inside = omega (arith, on-inside .ends, long (endRow g s (p .size)) (start-memo g (s - p .size + 1) (omega (arith, known, here .from-one, here .to-half))));
+        rows = λ r a b. ground-cells g sets cells starts cellStarts z good (s - p .size) r (omega (arith, here .to-half))
+            (omega (arith, on-inside .after, here .inner-from, first-from g s (p .size) (here .from-one) (here .to-half) (p .row) (here .row-from))) (omega (arith, on-inside .ends));
+      }
+
+      passed : (n : ℕ) → p .number + 1 ≤ n → n < p .number + (endRow g s (p .size) - p .inner)
+          → (inSpan on (p .inner + (n - p .number)) ≡ true → isJoinable g (getD sets (p .row) 0) (getD sets (p .inner + (n - p .number)) 0) ≡ false) → ownAt g s h n ≡ false
+      passed n a b out =
+          let y = p .inner + (n - p .number) in
+          let e : p .number + (y - p .inner) ≡ n = omega arith in
+          rw e at (not-on g sets cells starts cellStarts z s h sh (p .size) (p .row) (p .inner) (here .from-one) (here .to-half) (here .row-from) (here .row-to) (here .inner-from) (p .number) y (here .number) is (omega arith) (omega arith) out)
+
+      module _ (r : ℕ) (al : Along g sets (getD sets (p .row) 0) on r) where
+        -- found
+        pub on-found : r < on .end → NextFrom g s h (p .number + 1) (record { left = true; size = p .size; row = p .row; inner = r; number = p .number + (r - p .inner) })
+        on-found l =
+            let f = al .found l in
+            let k = span-true on r (f .0) in
+            let j : p .inner < r = omega (arith, on-inside .after, k .0) in
+            let u : r < endRow g s (p .size) = omega (arith, on-inside .ends) in
+            record {
+              waits = record {
+                there = λ _. (record {
+                  from-one = here .from-one;
+                  to-half = here .to-half;
+                  row-from = here .row-from;
+                  row-to = here .row-to;
+                  inner-from = omega (arith, here .inner-from);
+                  inner-to = u;
+                  number = omega (arith, here .number, here .inner-from);
+                }, own-on g sets cells starts cellStarts z s h sh (p .size) (p .row) (p .inner) (here .from-one) (here .to-half) (here .row-from) (here .row-to) (here .inner-from) (p .number) r (here .number) is j u (f .0) (f .1));
+                none = λ q. absurd (not-both true refl q);
+              };
+              ahead = omega arith;
+              clear = λ n a b. passed n a (omega (arith, u)) (λ y. al .clear (p .inner + (n - p .number)) y (omega arith));
+            }
+
+        -- none: on to the next driving row
+        pub on-clear : on .end ≤ r → Clear g s h (p .number + 1) (p .number + (endRow g s (p .size) - p .inner))
+        on-clear l n a b = passed n a b (λ y. al .clear (p .inner + (n - p .number)) y (omega (arith, span-true on (p .inner + (n - p .number)) y .1)))
+
+      pub on-next : RowFrom g s (p .size) (p .row + 1) (p .number + (endRow g s (p .size) - p .inner))
+      on-next = record {
+        two = two;
+        known = known;
+        from-one = here .from-one;
+        to-half = omega (arith, here .to-half);
+        row-from = omega (arith, here .row-from);
+        row-to = omega (arith, here .row-to);
+        at-end = λ q. absurd (omega (arith, here .to-half));
+        ahead = omega (arith, here .number, here .inner-from, here .inner-to, ahead-row g s (p .size) (p .row) (here .row-from));
+      }
+
+-- ---- how many candidates the sizes up to k + 1 have
+pub count-none : (starts : List ℕ) (s : ℕ) → countTo starts s 0 ≡ 0
+unfolding countTo
+count-none starts s = refl
+
+pub count-next : (starts : List ℕ) (s k : ℕ) → countTo starts s (k + 1) ≡ countTo starts s k + countAt starts s (k + 1)
+unfolding countTo
+count-next starts s k = rw (add-one k)
+
+-- ---- the first driving row of a size
+pub first-row : (g : Graph) (s : ℕ) → 2 ≤ s → s ≤ tableCount g → RowFrom g s 1 (startOf g 1) 0
+first-row g s two known = record { two = two; known = known; from-one = omega arith; to-half = omega arith; row-from = omega arith; row-to = start-mono g 1 2 (omega arith); at-end = λ q. refl; ahead = sym (ahead-zero g s) }
