@@ -172,7 +172,7 @@ module _ (q : Query) (P : Pair → Type 0) (sound : (p : Pair) → P p → Joina
 
 -- ---- places
 -- the two rows of a place are rows of smaller sizes
-at-smaller : (g : Graph) (s : ℕ) (p : Place) → 2 ≤ s → At g s p → (p .row < startOf g s) × (p .inner < startOf g s)
+pub at-smaller : (g : Graph) (s : ℕ) (p : Place) → 2 ≤ s → At g s p → (p .row < startOf g s) × (p .inner < startOf g s)
 at-smaller g s p two a = (omega (arith, a .row-to, a .to-half, start-mono g (p .size + 1) s (omega (arith, a .to-half))), omega (arith, a .inner-to, start-mono g (s - p .size + 1) s (omega (arith, a .from-one, a .to-half))))
 
 -- ---- the three theorems of a size
