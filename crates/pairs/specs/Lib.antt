@@ -4,3 +4,4 @@ pub mod Joinable
 pub mod Places
 pub mod PlaceLaws
 pub mod SpanLaws
+pub mod LeafLaws
