@@ -6,8 +6,6 @@ use borrow.Author.Needs.{needs}
 use Rattle.pairs.specs.LeafLaws.{clip-short, clip-long}
 use Rattle.pairs.proofs.shares.clip.Statement.{statement}
 use Rattle.pairs.proofs.shares.clip.Tie as tie
-use Rattle.pairs.proofs.shares.clip.Reads as reads
-use Rattle.pairs.proofs.shares.clip.Lts as lts
 
 sub-begin : tie.Need-sub-begin
 sub-begin c = search needs
