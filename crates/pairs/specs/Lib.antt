@@ -4,5 +4,6 @@ pub mod Joinable
 pub mod Places
 pub mod PlaceLaws
 pub mod SpanLaws
+pub mod LeafLaws
 pub mod GroundLaws
 pub mod FindLaws

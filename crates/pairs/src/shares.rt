@@ -76,7 +76,7 @@ fn all_or_none(all: bool, first: usize, end: usize) -> Span
 
 // The inner rows whose numbers are `from` to `to`; the first one has number `ahead`.
 fn clip(from: usize, to: usize, ahead: usize, first: usize, end: usize) -> Span
-    requires { ⌜ (from ≤ few) × (to ≤ few) × (first ≤ few) × (first ≤ end) ⌝ }
+    requires { ⌜ (from ≤ few) × (to ≤ few) × (ahead ≤ few + 1) × (first ≤ end) × (end ≤ few) ⌝ }
     ensures { λ r. ⌜ r ≡ clipped from to ahead first end ⌝ }
 {
     let mut begin = first;
