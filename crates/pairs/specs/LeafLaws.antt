@@ -87,12 +87,16 @@ module _ (h : Share) (x j end : ℕ) {r : Span} where
 
 -- ---- a hop over the rows that hold a table
 -- a table of both sets is one of each
-pub holds-both : (a b t : ℕ) → holds (bitAnd a b) t ≡ 1 → (holds a t ≡ 1) × (holds b t ≡ 1)
+holds-both : (a b t : ℕ) → holds (bitAnd a b) t ≡ 1 → (holds a t ≡ 1) × (holds b t ≡ 1)
 unfolding holds
 holds-both a b zero h = absurd (omega arith)
 holds-both a b (suc i) h =
     let e : bitAnd (a / 2 ^ i) (b / 2 ^ i) % 2 ≡ 1 = rw (and-shr a b i) at h in
     (omega (arith, and-step (a / 2 ^ i) (b / 2 ^ i)), omega (arith, and-step (a / 2 ^ i) (b / 2 ^ i)))
+
+-- what two overlapping sets share is some tables, and the second has them all
+pub overlap-held : (X Y : ℕ) → (bitAnd X Y ≡ 0 → ⊥) → (0 < bitAnd X Y) × ((t : ℕ) → holds (bitAnd X Y) t ≡ 1 → holds Y t ≡ 1)
+overlap-held X Y h = (omega arith, λ t e. holds-both X Y t e .1)
 
 module _ {sets cells : List ℕ} {base cell k j : ℕ} (z : RowCells sets cells base cell k j) where
   -- tables of the row alone make a set of tables 1 to 32
@@ -123,12 +127,8 @@ module _ (X : ℕ) {sets : List ℕ} {j to : ℕ} (below : getD sets j 0 < 2 ^ 3
   -- some table of both
   hop-table : (t : ℕ) × (holds (bitAnd X (getD sets j 0)) t ≡ 1) × Hops sets j t to
   hop-table =
-      let l = lowest-is 32 (bitAnd X (getD sets j 0)) (go (decLt 0 (bitAnd X (getD sets j 0)))) (omega (arith, and-le-r X (getD sets j 0))) in
+      let l = lowest-is 32 (bitAnd X (getD sets j 0)) (overlap-held X (getD sets j 0) some .0) (omega (arith, and-le-r X (getD sets j 0))) in
       (_, l .stands, h _ l)
-    where
-      go : Dec (0 < bitAnd X (getD sets j 0)) → 0 < bitAnd X (getD sets j 0)
-      go (yes l) = l
-      go (no n) = absurd (some (omega arith))
 
   -- a hop goes ahead
   pub hop-ahead : (j < to) × (to ≤ few)

@@ -1,6 +1,6 @@
-use borrow.Author.Needs.{needs}
 use native.Mathlib.Omega.{arith}
-use Rattle.pairs.specs.LeafLaws.{holds-both, onward-next, hop-ahead, onward-hop}
+use borrow.Author.Needs.{needs}
+use Rattle.pairs.specs.LeafLaws.{overlap-held, onward-next, hop-ahead, onward-hop}
 use Rattle.pairs.proofs.find.onward.Statement.{statement}
 use Rattle.pairs.proofs.find.onward.Tie as tie
 
@@ -22,13 +22,13 @@ returns c =
 hop-requires : tie.Need-hop-requires
 hop-requires c κs =
     let s = c .before .before .before .before in
-    (s .pre .0, (omega arith, λ t h. holds-both (s .args .x) _ t h .1))
+    (s .pre .0, overlap-held (s .args .x) _ (c .if1 .left))
 
 aligned-requires : tie.Need-aligned-requires
 aligned-requires c κs =
     let s = c .before .before .before .before .before in
     let b = hop-ahead (s .args .x) (s .pre .0 .below) (c .before .if1 .left) (c .hop .ensures) in
-    (b .0, b .1, s .pre .1 .0, s .pre .1 .1)
+    (b .0, b .1, omega arith, omega arith)
 
 returns-2 : tie.Need-returns-2
 returns-2 c =
