@@ -21,7 +21,8 @@ use Rattle.pairs.specs.Joinable.{isJoinable}
 use Rattle.pairs.specs.Places.{startOf, cellOf, firstOf, firstRow, endRow, aheadOf, ownAt, countAt, countTo, Ground, SpanCells, Along, RowFrom, At, nowhere, NextFrom}
 use Rattle.pairs.specs.PlaceLaws.{start-next, start-mono, start-memo, ahead-row, ahead-size, ahead-zero, ahead-end, first-from, first-le, memo-few, memo-inside, ahead-met, met-few}
 use Rattle.pairs.specs.SpanLaws.{span-true, share-total, share-fits, Lies, span-lies, on-lies, on-after}
-use Rattle.pairs.specs.GroundLaws.{ground-cells, own-at, not-own, own-on, not-on, at-number}
+use Rattle.pairs.specs.LeafLaws.{Walked, walked-found}
+use Rattle.pairs.specs.GroundLaws.{ground-set, ground-cells, own-at, not-own, own-on, not-on, at-number}
 
 -- the worker may join none of the candidates x to y
 abbrev pub Clear : Graph → ℕ → Share → ℕ → ℕ → Type 0
@@ -37,6 +38,31 @@ clear-on g s h x y z p q n a b = go (decLt n y)
     go (yes l) = p n a l
     go (no f) = q n (omega arith) b
 
+-- the worker's inner rows of driving row i of size d
+abbrev pub rowSpan : Graph → ℕ → Share → ℕ → ℕ → Span
+rowSpan g s h d i = spanOf h (aheadOf g s d i) (length (rowsOf g d)) (i - startOf g d) (firstRow g s d i) (endRow g s d)
+
+-- ---- the values that the search keeps
+-- of a driving size d: where its rows and the inner rows begin and end, and the first skip cell of these
+pub record Sized (g : Graph) (s d base end from to cell : ℕ) : Type 0 where
+  pub half : d ≤ s / 2
+  pub base-is : base ≡ startOf g (s - d)
+  pub end-is : end ≡ endRow g s d
+  pub from-is : from ≡ startOf g d
+  pub to-is : to ≡ startOf g (d + 1)
+  pub cell-is : cell ≡ cellOf g (s - d)
+
+-- of one driving row of it: its first inner row, and the worker's rows
+pub record Rowed (g : Graph) (sets cells : List ℕ) (s : ℕ) (h : Share) (d i x base end cell first : ℕ) (own : Span) : Type 0 where
+  pub at : RowFrom g s d i x
+  pub half : d ≤ s / 2
+  pub more : i < startOf g (d + 1)
+  pub first-is : first ≡ firstRow g s d i
+  pub end-is : end ≡ endRow g s d
+  pub first-end : first ≤ end
+  pub own-is : own ≡ rowSpan g s h d i
+  pub span-cells : SpanCells sets cells base cell (s - d) own
+
 module _ (g : Graph) (sets cells starts cellStarts : List ℕ) (z : Ground g sets cells starts cellStarts) where
   -- the first inner row, as the table of starts says
   pub first-known : (s d i : ℕ) → 1 ≤ d → d ≤ s / 2 → s ≤ tableCount g → firstOf starts s d i ≡ firstRow g s d i
@@ -48,17 +74,14 @@ module _ (g : Graph) (sets cells starts cellStarts : List ℕ) (z : Ground g set
 
     -- ---- driving row i of size d, of which x is the first candidate
     module _ (d i x : ℕ) (at : RowFrom g s d i x) (half : d ≤ s / 2) (more : i < startOf g (d + 1)) where
-      abbrev own : Span
-      own = spanOf h (aheadOf g s d i) (length (rowsOf g d)) (i - startOf g d) (firstRow g s d i) (endRow g s d)
-
       few-end : endRow g s d ≤ few
       few-end = omega (arith, start-memo g (s - d + 1) (omega (arith, at .known, at .from-one)), memo-few g good)
 
-      lies : Lies (firstRow g s d i) (endRow g s d) own
+      lies : Lies (firstRow g s d i) (endRow g s d) (rowSpan g s h d i)
       lies = span-lies h (share-fits g s h sh good (at .known)) (aheadOf g s d i) (length (rowsOf g d)) (i - startOf g d) (firstRow g s d i) (endRow g s d) (first-le g s d (at .from-one) half i (at .row-from) more) few-end
 
       -- the worker's rows of it have their cells
-      pub row-cells : SpanCells sets cells (startOf g (s - d)) (cellOf g (s - d)) (s - d) own
+      pub row-cells : SpanCells sets cells (startOf g (s - d)) (cellOf g (s - d)) (s - d) (rowSpan g s h d i)
       row-cells = record {
         some-step = lies .some-step;
         few-step = lies .few-step;
@@ -67,7 +90,7 @@ module _ (g : Graph) (sets cells starts cellStarts : List ℕ) (z : Ground g set
       }
 
       -- it is done: none of the worker's rows may be joined
-      module _ (none : (p : ℕ) → inSpan own p ≡ true → isJoinable g (getD sets i 0) (getD sets p 0) ≡ false) where
+      module _ (none : (p : ℕ) → inSpan (rowSpan g s h d i) p ≡ true → isJoinable g (getD sets i 0) (getD sets p 0) ≡ false) where
         pub row-clear : Clear g s h x (x + (endRow g s d - firstRow g s d i))
         row-clear n a b =
             let f = firstRow g s d i in
@@ -87,11 +110,11 @@ module _ (g : Graph) (sets cells starts cellStarts : List ℕ) (z : Ground g set
         }
 
       -- its row j is found
-      pub row-found : (x₀ j : ℕ) → x₀ ≤ x → Clear g s h x₀ x → inSpan own j ≡ true → isJoinable g (getD sets i 0) (getD sets j 0) ≡ true → ((p : ℕ) → inSpan own p ≡ true → p < j → isJoinable g (getD sets i 0) (getD sets p 0) ≡ false)
+      pub row-found : (x₀ j : ℕ) → x₀ ≤ x → Clear g s h x₀ x → inSpan (rowSpan g s h d i) j ≡ true → isJoinable g (getD sets i 0) (getD sets j 0) ≡ true → ((p : ℕ) → inSpan (rowSpan g s h d i) p ≡ true → p < j → isJoinable g (getD sets i 0) (getD sets p 0) ≡ false)
           → NextFrom g s h x₀ (record { left = true; size = d; row = i; inner = j; number = x + (j - firstRow g s d i) })
       row-found x₀ j a c t e before =
           let f = firstRow g s d i in
-          let k = span-true own j t in
+          let k = span-true (rowSpan g s h d i) j t in
           let l : f ≤ j = omega (arith, lies .after, k .0) in
           let u : j < endRow g s d = omega (arith, lies .ends, k .1) in
           let o : ownAt g s h (x + (j - f)) ≡ true = rw (at .ahead) (own-at g sets cells starts cellStarts z s h sh d i j (at .from-one) half (at .row-from) more l u t e) in
@@ -105,6 +128,87 @@ module _ (g : Graph) (sets cells starts cellStarts : List ℕ) (z : Ground g set
                 let r : aheadOf g s d i + (f + (n - x) - f) ≡ n = omega (arith, at .ahead) in
                 rw r at (not-own g sets cells starts cellStarts z s h sh d i (f + (n - x)) (at .from-one) half (at .row-from) more (omega arith) (omega arith) (λ y. before (f + (n - x)) y (omega arith))));
           }
+
+    -- ---- the values of the code
+    pub sized-of : (d i x : ℕ) → RowFrom g s d i x → d ≤ s / 2 → Sized g s d (getD starts (s - d) 0) (getD starts (s - d + 1) 0) (getD starts d 0) (getD starts (d + 1) 0) (getD cellStarts (s - d) 0)
+    sized-of d i x at half = record {
+      half = half;
+      base-is = z .starts-known (s - d) (omega (arith, at .two)) (omega (arith, at .known));
+      end-is = z .starts-known (s - d + 1) (omega arith) (omega (arith, at .known, at .from-one));
+      from-is = z .starts-known d (at .from-one) (omega (arith, at .known));
+      to-is = z .starts-known (d + 1) (omega arith) (omega (arith, at .known));
+      cell-is = z .cells-known (s - d) (omega (arith, at .two)) (omega (arith, at .known));
+    }
+
+    module _ (d i x base end from to cell : ℕ) (at : RowFrom g s d i x) (size : Sized g s d base end from to cell) (more : i < to) where
+      row-more : i < startOf g (d + 1)
+      row-more = omega (arith, size .to-is)
+
+      pub few-all : (x ≤ few) × (end ≤ few) × (to ≤ few)
+      few-all = (
+        omega (arith, at .ahead, ahead-met g s d i (at .from-one) (size .half) (at .row-from) (at .row-to), met-few g good s (at .known)),
+        omega (arith, size .end-is, start-memo g (s - d + 1) (omega (arith, at .known, at .from-one)), memo-few g good),
+        omega (arith, size .to-is, start-memo g (d + 1) (omega (arith, at .known, size .half)), memo-few g good),
+      )
+
+      pub sets-inside : i < length sets
+      sets-inside = ground-set g sets cells starts cellStarts z i (memo-inside g d i (at .from-one) (at .row-from) row-more) .0
+
+      module _ (first : ℕ) (f : first ≡ firstOf starts s d i) where
+        first-row-is : first ≡ firstRow g s d i
+        first-row-is = f ∙ first-known s d i (at .from-one) (size .half) (at .known)
+
+        pub first-le-end : first ≤ end
+        first-le-end = omega (arith, first-row-is, size .end-is, first-le g s d (at .from-one) (size .half) i (at .row-from) row-more)
+
+        pub rowed-of : (own : Span) → own ≡ spanOf h x (to - from) (i - from) first end → Rowed g sets cells s h d i x base end cell first own
+        rowed-of own e =
+            let n : to - from ≡ length (rowsOf g d) = omega (arith, size .to-is, size .from-is, start-next g d (at .from-one)) in
+            let m : own ≡ rowSpan g s h d i = e ∙ rw (n, size .from-is, first-row-is, size .end-is, at .ahead) in
+            record {
+              at = at;
+              half = size .half;
+              more = row-more;
+              first-is = first-row-is;
+              end-is = size .end-is;
+              first-end = first-le-end;
+              own-is = m;
+              span-cells = rw (m, size .base-is, size .cell-is) (row-cells d i x at (size .half) row-more);
+            }
+
+    module _ (d i x base end cell first : ℕ) (own : Span) (r : Rowed g sets cells s h d i x base end cell first own) (j : ℕ) (w : Walked g sets (getD sets i 0) own j) where
+      -- the row is done
+      module _ (l : own .end ≤ j) where
+        none : (p : ℕ) → inSpan (rowSpan g s h d i) p ≡ true → isJoinable g (getD sets i 0) (getD sets p 0) ≡ false
+        none p e =
+            let f : inSpan own p ≡ true = rw (r .own-is) e in
+            w .clear p f (omega (arith, span-true own p f .1))
+
+        pub rowed-clear : Clear g s h x (x + (end - first))
+        rowed-clear = rw (r .end-is, r .first-is) (row-clear d i x (r .at) (r .half) (r .more) none)
+
+        pub rowed-next : RowFrom g s d (i + 1) (x + (end - first))
+        rowed-next = rw (r .end-is, r .first-is) (row-next d i x (r .at) (r .half) (r .more) none)
+
+        pub rowed-few : x + (end - first) ≤ few
+        rowed-few =
+            let n = rowed-next in
+            omega (arith, n .ahead, ahead-met g s d (i + 1) (n .from-one) (r .half) (n .row-from) (n .row-to), met-few g good s (n .known))
+
+      -- its row j has a number
+      pub rowed-place : j < own .end → (first ≤ j) × (x + (j - first) ≤ few + few)
+      rowed-place l =
+          let at = r .at in
+          let a : Lies (firstRow g s d i) (endRow g s d) own = rw (r .own-is) (lies d i x at (r .half) (r .more)) in
+          let c = r .span-cells .rows j (w .from) l .early in
+          (omega (arith, r .first-is, a .after, w .from), omega (arith, at .ahead, ahead-met g s d i (at .from-one) (r .half) (at .row-from) (at .row-to), met-few g good s (at .known)))
+
+      -- its row j is found
+      pub rowed-found : (x₀ : ℕ) → x₀ ≤ x → Clear g s h x₀ x → j < own .end → {b : Bool} → b ≡ isJoinable g (getD sets i 0) (getD sets j 0) → b ≡ true
+          → NextFrom g s h x₀ (record { left = true; size = d; row = i; inner = j; number = x + (j - first) })
+      rowed-found x₀ a c l e t =
+          let f = walked-found g sets (getD sets i 0) own w l e t .found l in
+          rw (r .first-is) (row-found d i x (r .at) (r .half) (r .more) x₀ j a c (rw (r .own-is) at (f .0)) (f .1) (λ p q. w .clear p (rw (r .own-is) q)))
 
     -- ---- a size of driving rows is done
     pub size-next : (d i x : ℕ) → RowFrom g s d i x → d ≤ s / 2 → startOf g (d + 1) ≤ i → RowFrom g s (d + 1) i x

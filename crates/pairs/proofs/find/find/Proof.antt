@@ -1,224 +1,320 @@
+use mathlib.Core.Path.{_≡_, refl, sym, ap, _∙_}
+use mathlib.Core.Logic.{⊎-elim}
+use Prim.Native.Nat.{ℕ, _+_, _-_, _/_, _≤_, _<_}
+use native.Mathlib.Nat.{le-refl}
+use native.Mathlib.Omega.{arith}
+use lib.ListN.{length, getD}
+use Rattle.rules.specs.Query.{graphOf}
+use Rattle.pairs.specs.Places.{firstOf, RowFrom}
+use Rattle.pairs.specs.SpanLaws.{share-fits}
+use Rattle.pairs.specs.LeafLaws.{Walked, walked-none, walked-on}
+use Rattle.pairs.specs.FindLaws.{Clear, clear-none, clear-on, Sized, sized-of, Rowed, few-all, sets-inside, first-le-end, rowed-few, rowed-of, rowed-clear, rowed-next, rowed-place, rowed-found, size-next, none-left}
 use Rattle.pairs.proofs.find.find.Statement.{statement}
 use Rattle.pairs.proofs.find.find.Tie as tie
-use Rattle.pairs.proofs.find.find.Reads as reads
-use Rattle.pairs.proofs.find.find.Lts as lts
-use Rattle.pairs.proofs.find.first_of.Reads as first-of-reads
-use Rattle.pairs.proofs.find.joinable.Reads as joinable-reads
-use Rattle.pairs.proofs.find.onward.Reads as onward-reads
-use Rattle.pairs.proofs.places.nowhere.Reads as nowhere-reads
-use Rattle.pairs.proofs.shares.span_of.Reads as span-of-reads
 
 abbrev Inv-loop2 : tie.InvT-loop2
 Inv-loop2 rows left right divisors sets skips starts cells s share size row ahead half d i j₀ number base end rows-from rows-to cell x first own j =
-    ?
+    Rowed (graphOf rows left right divisors) sets skips s share d i number base end cell first own × Walked (graphOf rows left right divisors) sets (getD sets i 0) own j × (ahead ≤ number) × Clear (graphOf rows left right divisors) s share ahead number
 
 abbrev μ-loop2 : tie.MeasureT-loop2
-μ-loop2 rows left right divisors sets skips starts cells s share size row ahead half d i j₀ number base end rows-from rows-to cell x first own j =
-    ?
+μ-loop2 rows left right divisors sets skips starts cells s share size row ahead half d i j₀ number base end rows-from rows-to cell x first own j = own .end - j
 
 abbrev Inv-loop : tie.InvT-loop
 Inv-loop rows left right divisors sets skips starts cells s share size row ahead half d i₀ j₀ number₀ base end rows-from rows-to cell i j number =
-    ?
+    Sized (graphOf rows left right divisors) s d base end rows-from rows-to cell × (ahead ≤ number) × RowFrom (graphOf rows left right divisors) s d i number × Clear (graphOf rows left right divisors) s share ahead number
 
 abbrev μ-loop : tie.MeasureT-loop
-μ-loop rows left right divisors sets skips starts cells s share size row ahead half d i₀ j₀ number₀ base end rows-from rows-to cell i j number =
-    ?
+μ-loop rows left right divisors sets skips starts cells s share size row ahead half d i₀ j₀ number₀ base end rows-from rows-to cell i j number = rows-to - i
 
 abbrev Inv-find : tie.InvT-find
-Inv-find rows left right divisors sets skips starts cells s share size row ahead half d₀ i₀ j₀ number₀ d i j number =
-    ?
+Inv-find rows left right divisors sets skips starts cells s share size row ahead half d₀ i₀ j₀ number₀ d i j number = (ahead ≤ number) × RowFrom (graphOf rows left right divisors) s d i number × Clear (graphOf rows left right divisors) s share ahead number
 
 abbrev μ-find : tie.MeasureT-find
-μ-find rows left right divisors sets skips starts cells s share size row ahead half d₀ i₀ j₀ number₀ d i j number =
-    ?
+μ-find rows left right divisors sets skips starts cells s share size row ahead half d₀ i₀ j₀ number₀ d i j number = half + 1 - d
 
--- src/find.rt:158:5
 find-holds : tie.Need-find-holds Inv-loop2 μ-loop2 Inv-loop μ-loop Inv-find μ-find
-find-holds c = ?
+find-holds c =
+    let s = c .before .before .before .before .before .before .before .before in
+    let g = graphOf (s .args .rows .now) (s .args .left .now) (s .args .right .now) (s .args .divisors .now) in
+    (le-refl _, s .pre .1 .1 .1, clear-none g (s .args .s) (s .args .share) (s .args .ahead))
 
--- src/find.rt:159:27
 sub-base : tie.Need-sub-base Inv-loop2 μ-loop2 Inv-loop μ-loop Inv-find μ-find
-sub-base c = ?
+sub-base c = omega arith
 
--- src/find.rt:159:20
 mul-base : tie.Need-mul-base Inv-loop2 μ-loop2 Inv-loop μ-loop Inv-find μ-find
-mul-base c = ?
+mul-base c =
+    let s = c .before .before .before .before .before .before .before .before .before .before in
+    let f = c .before .find in
+    omega (arith, s .pre .1 .0 .starts-long, f .inv .1 .known, f .inv .1 .two)
 
--- src/find.rt:159:20
-shared-slice-read-base :
-    tie.Need-shared-slice-read-base Inv-loop2 μ-loop2 Inv-loop μ-loop Inv-find μ-find
-shared-slice-read-base c = ?
+shared-slice-read-base : tie.Need-shared-slice-read-base Inv-loop2 μ-loop2 Inv-loop μ-loop Inv-find μ-find
+shared-slice-read-base c =
+    let s = c .before .before .before .before .before .before .before .before .before .before .before in
+    let f = c .before .before .find in
+    omega (arith, s .pre .1 .0 .starts-long, f .inv .1 .known, f .inv .1 .two)
 
--- src/find.rt:160:26
 sub-end : tie.Need-sub-end Inv-loop2 μ-loop2 Inv-loop μ-loop Inv-find μ-find
-sub-end c = ?
+sub-end c = omega arith
 
--- src/find.rt:160:26
 add-end : tie.Need-add-end Inv-loop2 μ-loop2 Inv-loop μ-loop Inv-find μ-find
-add-end c = ?
+add-end c =
+    let s = c .before .before .before .before .before .before .before .before .before .before .before in
+    let f = c .before .before .find in
+    omega (arith, s .pre .1 .0 .starts-long, f .inv .1 .known, f .inv .1 .two)
 
--- src/find.rt:160:19
 mul-end : tie.Need-mul-end Inv-loop2 μ-loop2 Inv-loop μ-loop Inv-find μ-find
-mul-end c = ?
+mul-end c =
+    let s = c .before .before .before .before .before .before .before .before .before .before .before in
+    let f = c .before .before .find in
+    omega (arith, s .pre .1 .0 .starts-long, f .inv .1 .known, f .inv .1 .two)
 
--- src/find.rt:160:19
-shared-slice-read-end :
-    tie.Need-shared-slice-read-end Inv-loop2 μ-loop2 Inv-loop μ-loop Inv-find μ-find
-shared-slice-read-end c = ?
+shared-slice-read-end : tie.Need-shared-slice-read-end Inv-loop2 μ-loop2 Inv-loop μ-loop Inv-find μ-find
+shared-slice-read-end c =
+    let s = c .before .before .before .before .before .before .before .before .before .before .before .before in
+    let f = c .before .before .before .find in
+    omega (arith, s .pre .1 .0 .starts-long, f .inv .1 .known, f .inv .1 .two)
 
--- src/find.rt:161:25
 mul-rows-from : tie.Need-mul-rows-from Inv-loop2 μ-loop2 Inv-loop μ-loop Inv-find μ-find
-mul-rows-from c = ?
+mul-rows-from c =
+    let s = c .before .before .before .before .before .before .before .before .before .before .before .before in
+    let f = c .before .before .before .find in
+    omega (arith, s .pre .1 .0 .starts-long, f .inv .1 .known, f .inv .1 .two)
 
--- src/find.rt:161:25
-shared-slice-read-rows-from :
-    tie.Need-shared-slice-read-rows-from Inv-loop2 μ-loop2 Inv-loop μ-loop Inv-find μ-find
-shared-slice-read-rows-from c = ?
+shared-slice-read-rows-from : tie.Need-shared-slice-read-rows-from Inv-loop2 μ-loop2 Inv-loop μ-loop Inv-find μ-find
+shared-slice-read-rows-from c =
+    let s = c .before .before .before .before .before .before .before .before .before .before .before .before .before in
+    let f = c .before .before .before .before .find in
+    omega (arith, s .pre .1 .0 .starts-long, f .inv .1 .known, f .inv .1 .two)
 
--- src/find.rt:162:30
 add-rows-to : tie.Need-add-rows-to Inv-loop2 μ-loop2 Inv-loop μ-loop Inv-find μ-find
-add-rows-to c = ?
+add-rows-to c = omega arith
 
--- src/find.rt:162:23
 mul-rows-to : tie.Need-mul-rows-to Inv-loop2 μ-loop2 Inv-loop μ-loop Inv-find μ-find
-mul-rows-to c = ?
+mul-rows-to c =
+    let s = c .before .before .before .before .before .before .before .before .before .before .before .before .before in
+    let f = c .before .before .before .before .find in
+    omega (arith, s .pre .1 .0 .starts-long, f .inv .1 .known, f .inv .1 .two)
 
--- src/find.rt:162:23
-shared-slice-read-rows-to :
-    tie.Need-shared-slice-read-rows-to Inv-loop2 μ-loop2 Inv-loop μ-loop Inv-find μ-find
-shared-slice-read-rows-to c = ?
+shared-slice-read-rows-to : tie.Need-shared-slice-read-rows-to Inv-loop2 μ-loop2 Inv-loop μ-loop Inv-find μ-find
+shared-slice-read-rows-to c =
+    let s = c .before .before .before .before .before .before .before .before .before .before .before .before .before .before in
+    let f = c .before .before .before .before .before .find in
+    omega (arith, s .pre .1 .0 .starts-long, f .inv .1 .known, f .inv .1 .two)
 
--- src/find.rt:163:26
 sub-cell : tie.Need-sub-cell Inv-loop2 μ-loop2 Inv-loop μ-loop Inv-find μ-find
-sub-cell c = ?
+sub-cell c = omega arith
 
--- src/find.rt:163:20
 mul-cell : tie.Need-mul-cell Inv-loop2 μ-loop2 Inv-loop μ-loop Inv-find μ-find
-mul-cell c = ?
+mul-cell c =
+    let s = c .before .before .before .before .before .before .before .before .before .before .before .before .before .before in
+    let f = c .before .before .before .before .before .find in
+    omega (arith, s .pre .1 .0 .cells-long, f .inv .1 .known, f .inv .1 .two)
 
--- src/find.rt:163:20
-shared-slice-read-cell :
-    tie.Need-shared-slice-read-cell Inv-loop2 μ-loop2 Inv-loop μ-loop Inv-find μ-find
-shared-slice-read-cell c = ?
+shared-slice-read-cell : tie.Need-shared-slice-read-cell Inv-loop2 μ-loop2 Inv-loop μ-loop Inv-find μ-find
+shared-slice-read-cell c =
+    let s = c .before .before .before .before .before .before .before .before .before .before .before .before .before .before .before in
+    let f = c .before .before .before .before .before .before .find in
+    omega (arith, s .pre .1 .0 .cells-long, f .inv .1 .known, f .inv .1 .two)
 
--- src/find.rt:164:9
 loop-holds : tie.Need-loop-holds Inv-loop2 μ-loop2 Inv-loop μ-loop Inv-find μ-find
-loop-holds c = ?
+loop-holds c =
+    let s = c .before .before .before .before .before .before .before .before .before .before .before .before .before .before .before in
+    let g = graphOf (s .args .rows .now) (s .args .left .now) (s .args .right .now) (s .args .divisors .now) in
+    let f = c .before .before .before .before .before .before .find in
+    (sized-of g (s .args .sets .now) (s .args .skips .now) (s .args .starts .now) (s .args .cells .now) (s .pre .1 .0) (s .pre .0) (s .args .s) (s .args .share) (s .pre .1 .1 .0) (f .d) (f .i) (f .number) (f .inv .1) (c .before .before .before .before .before .find-test .taken), f .inv .0, f .inv .1, f .inv .2)
 
--- src/find.rt:165:21
 mul-x : tie.Need-mul-x Inv-loop2 μ-loop2 Inv-loop μ-loop Inv-find μ-find
-mul-x c = ?
+mul-x c =
+    let s = c .before .before .before .before .before .before .before .before .before .before .before .before .before .before .before .before .before in
+    let g = graphOf (s .args .rows .now) (s .args .left .now) (s .args .right .now) (s .args .divisors .now) in
+    let f = c .before .before .before .before .before .before .before .before .find in
+    let l = c .before .loop in
+    omega (arith, sets-inside g (s .args .sets .now) (s .args .skips .now) (s .args .starts .now) (s .args .cells .now) (s .pre .1 .0) (s .pre .0) (s .args .s) (s .args .share) (s .pre .1 .1 .0) (f .d) (l .i) (l .number) _ _ _ _ _ (l .inv .2) (l .inv .0) (c .loop-test .taken))
 
--- src/find.rt:165:21
-shared-slice-read-x :
-    tie.Need-shared-slice-read-x Inv-loop2 μ-loop2 Inv-loop μ-loop Inv-find μ-find
-shared-slice-read-x c = ?
+shared-slice-read-x : tie.Need-shared-slice-read-x Inv-loop2 μ-loop2 Inv-loop μ-loop Inv-find μ-find
+shared-slice-read-x c =
+    let s = c .before .before .before .before .before .before .before .before .before .before .before .before .before .before .before .before .before .before in
+    let g = graphOf (s .args .rows .now) (s .args .left .now) (s .args .right .now) (s .args .divisors .now) in
+    let f = c .before .before .before .before .before .before .before .before .before .find in
+    let l = c .before .before .loop in
+    sets-inside g (s .args .sets .now) (s .args .skips .now) (s .args .starts .now) (s .args .cells .now) (s .pre .1 .0) (s .pre .0) (s .args .s) (s .args .share) (s .pre .1 .1 .0) (f .d) (l .i) (l .number) _ _ _ _ _ (l .inv .2) (l .inv .0) (c .before .loop-test .taken)
 
--- src/find.rt:166:17
 first-of-requires : tie.Need-first-of-requires Inv-loop2 μ-loop2 Inv-loop μ-loop Inv-find μ-find
-first-of-requires c κs = ?
+first-of-requires c κs =
+    let s = c .before .before .before .before .before .before .before .before .before .before .before .before .before .before .before .before .before .before in
+    let g = graphOf (s .args .rows .now) (s .args .left .now) (s .args .right .now) (s .args .divisors .now) in
+    let f = c .before .before .before .before .before .before .before .before .before .find in
+    let l = c .before .before .loop in
+    omega (arith, s .pre .1 .0 .starts-long, s .pre .0 .few-tables, l .inv .2 .known, l .inv .2 .from-one, l .inv .0 .half, few-all g (s .args .sets .now) (s .args .skips .now) (s .args .starts .now) (s .args .cells .now) (s .pre .1 .0) (s .pre .0) (s .args .s) (s .args .share) (s .pre .1 .1 .0) (f .d) (l .i) (l .number) _ _ _ _ _ (l .inv .2) (l .inv .0) (c .before .loop-test .taken) .2)
 
--- src/find.rt:170:17
 sub-span-of : tie.Need-sub-span-of Inv-loop2 μ-loop2 Inv-loop μ-loop Inv-find μ-find
-sub-span-of c = ?
+sub-span-of c =
+    let l = c .before .before .before .loop in
+    omega (arith, l .inv .0 .from-is, l .inv .2 .row-from)
 
--- src/find.rt:171:17
 sub-span-of-2 : tie.Need-sub-span-of-2 Inv-loop2 μ-loop2 Inv-loop μ-loop Inv-find μ-find
-sub-span-of-2 c = ?
+sub-span-of-2 c =
+    let l = c .before .before .before .loop in
+    omega (arith, l .inv .0 .from-is, l .inv .2 .row-from)
 
--- src/find.rt:167:17
 span-of-requires : tie.Need-span-of-requires Inv-loop2 μ-loop2 Inv-loop μ-loop Inv-find μ-find
-span-of-requires c κs = ?
+span-of-requires c κs =
+    let s = c .before .before .before .before .before .before .before .before .before .before .before .before .before .before .before .before .before .before .before in
+    let g = graphOf (s .args .rows .now) (s .args .left .now) (s .args .right .now) (s .args .divisors .now) in
+    let f = c .before .before .before .before .before .before .before .before .before .before .find in
+    let l = c .before .before .before .loop in
+    let few = few-all g (s .args .sets .now) (s .args .skips .now) (s .args .starts .now) (s .args .cells .now) (s .pre .1 .0) (s .pre .0) (s .args .s) (s .args .share) (s .pre .1 .1 .0) (f .d) (l .i) (l .number) _ _ _ _ _ (l .inv .2) (l .inv .0) (c .before .before .loop-test .taken) in
+    (
+      share-fits g (s .args .s) (s .args .share) (s .pre .1 .1 .0) (s .pre .0) (l .inv .2 .known),
+      few .0,
+      omega (arith, few .2),
+      first-le-end g (s .args .sets .now) (s .args .skips .now) (s .args .starts .now) (s .args .cells .now) (s .pre .1 .0) (s .pre .0) (s .args .s) (s .args .share) (s .pre .1 .1 .0) (f .d) (l .i) (l .number) _ _ _ _ _ (l .inv .2) (l .inv .0) (c .before .before .loop-test .taken) (c .first-of .result) (c .first-of .ensures),
+      few .1,
+    )
 
--- src/find.rt:176:13
 loop2-holds : tie.Need-loop2-holds Inv-loop2 μ-loop2 Inv-loop μ-loop Inv-find μ-find
-loop2-holds c = ?
+loop2-holds c =
+    let s = c .before .before .before .before .before .before .before .before .before .before .before .before .before .before .before .before .before .before .before .before in
+    let g = graphOf (s .args .rows .now) (s .args .left .now) (s .args .right .now) (s .args .divisors .now) in
+    let f = c .before .before .before .before .before .before .before .before .before .before .before .find in
+    let l = c .before .before .before .before .loop in
+    (
+      rowed-of g (s .args .sets .now) (s .args .skips .now) (s .args .starts .now) (s .args .cells .now) (s .pre .1 .0) (s .pre .0) (s .args .s) (s .args .share) (s .pre .1 .1 .0) (f .d) (l .i) (l .number) _ _ _ _ _ (l .inv .2) (l .inv .0) (c .before .before .before .loop-test .taken) (c .before .first-of .result) (c .before .first-of .ensures) (c .span-of .result) (c .span-of .ensures),
+      walked-none _ _ _ _,
+      l .inv .1,
+      l .inv .3,
+    )
 
--- src/find.rt:177:61
 mul-joinable : tie.Need-mul-joinable Inv-loop2 μ-loop2 Inv-loop μ-loop Inv-find μ-find
-mul-joinable c = ?
+mul-joinable c =
+    let m = c .before .before .loop2 in
+    let r = m .inv .0 .span-cells .rows _ (m .inv .1 .from) (c .if1 .taken) in
+    omega (arith, r .inside, r .early)
 
--- src/find.rt:177:61
-shared-slice-read-joinable :
-    tie.Need-shared-slice-read-joinable Inv-loop2 μ-loop2 Inv-loop μ-loop Inv-find μ-find
-shared-slice-read-joinable c = ?
+shared-slice-read-joinable : tie.Need-shared-slice-read-joinable Inv-loop2 μ-loop2 Inv-loop μ-loop Inv-find μ-find
+shared-slice-read-joinable c =
+    let m = c .before .before .before .loop2 in
+    let r = m .inv .0 .span-cells .rows _ (m .inv .1 .from) (c .before .if1 .taken) in
+    omega (arith, r .inside, r .early)
 
--- src/find.rt:177:20
 joinable-requires : tie.Need-joinable-requires Inv-loop2 μ-loop2 Inv-loop μ-loop Inv-find μ-find
-joinable-requires c κs = ?
+joinable-requires c κs = c .before .before .before .before .before .before .before .before .before .before .before .before .before .before .before .before .before .before .before .before .before .before .before .before .pre .0
 
--- src/find.rt:180:53
 sub-onward : tie.Need-sub-onward Inv-loop2 μ-loop2 Inv-loop μ-loop Inv-find μ-find
-sub-onward c = ?
+sub-onward c =
+    let m = c .before .before .before .before .before .loop2 in
+    omega (arith, m .inv .0 .half)
 
--- src/find.rt:180:17
 onward-requires : tie.Need-onward-requires Inv-loop2 μ-loop2 Inv-loop μ-loop Inv-find μ-find
-onward-requires c κs = ?
+onward-requires c κs =
+    let m = c .before .before .before .before .before .loop2 in
+    let z = m .inv .0 .span-cells in
+    (z .rows _ (m .inv .1 .from) (c .before .before .before .if1 .taken), (z .some-step, z .few-step))
 
--- src/find.rt:176:13
 loop2-less : tie.Need-loop2-less Inv-loop2 μ-loop2 Inv-loop μ-loop Inv-find μ-find
-loop2-less c = ?
+loop2-less c = omega (arith, c .onward .ensures .after)
 
--- src/find.rt:176:13
 loop2-again : tie.Need-loop2-again Inv-loop2 μ-loop2 Inv-loop μ-loop Inv-find μ-find
-loop2-again c = ?
+loop2-again c =
+    let m = c .before .before .before .before .before .before .loop2 in
+    (m .inv .0, walked-on _ _ _ _ (m .inv .1) (c .before .before .joinable .ensures) (c .before .if2 .left) (c .onward .ensures), m .inv .2, m .inv .3)
 
--- src/find.rt:182:23
 sub-number : tie.Need-sub-number Inv-loop2 μ-loop2 Inv-loop μ-loop Inv-find μ-find
-sub-number c = ?
+sub-number c =
+    let m = c .before .before .loop2 in
+    omega (arith, m .inv .0 .first-end)
 
--- src/find.rt:182:13
 add-number : tie.Need-add-number Inv-loop2 μ-loop2 Inv-loop μ-loop Inv-find μ-find
-add-number c = ?
+add-number c =
+    let s = c .before .before .before .before .before .before .before .before .before .before .before .before .before .before .before .before .before .before .before .before .before .before .before in
+    let g = graphOf (s .args .rows .now) (s .args .left .now) (s .args .right .now) (s .args .divisors .now) in
+    let m = c .before .before .loop2 in
+    omega (arith, rowed-few g (s .args .sets .now) (s .args .skips .now) (s .args .starts .now) (s .args .cells .now) (s .pre .1 .0) (s .pre .0) (s .args .s) (s .args .share) (s .pre .1 .1 .0) _ _ _ _ _ _ _ _ (m .inv .0) _ (m .inv .1) (c .if1 .left))
 
--- src/find.rt:183:13
 add-i : tie.Need-add-i Inv-loop2 μ-loop2 Inv-loop μ-loop Inv-find μ-find
-add-i c = ?
+add-i c =
+    let s = c .before .before .before .before .before .before .before .before .before .before .before .before .before .before .before .before .before .before .before .before .before .before .before in
+    let g = graphOf (s .args .rows .now) (s .args .left .now) (s .args .right .now) (s .args .divisors .now) in
+    let f = c .before .before .before .before .before .before .before .before .before .before .before .before .before .before .find in
+    let l = c .before .before .before .before .before .before .before .loop in
+    omega (arith, few-all g (s .args .sets .now) (s .args .skips .now) (s .args .starts .now) (s .args .cells .now) (s .pre .1 .0) (s .pre .0) (s .args .s) (s .args .share) (s .pre .1 .1 .0) (f .d) (l .i) (l .number) _ _ _ _ _ (l .inv .2) (l .inv .0) (c .before .before .before .before .before .before .loop-test .taken) .2)
 
--- src/find.rt:164:9
 loop-less : tie.Need-loop-less Inv-loop2 μ-loop2 Inv-loop μ-loop Inv-find μ-find
-loop-less c = ?
+loop-less c = omega arith
 
--- src/find.rt:164:9
 loop-again : tie.Need-loop-again Inv-loop2 μ-loop2 Inv-loop μ-loop Inv-find μ-find
-loop-again c = ?
+loop-again c =
+    let s = c .before .before .before .before .before .before .before .before .before .before .before .before .before .before .before .before .before .before .before .before .before .before .before in
+    let g = graphOf (s .args .rows .now) (s .args .left .now) (s .args .right .now) (s .args .divisors .now) in
+    let l = c .before .before .before .before .before .before .before .loop in
+    let m = c .before .before .loop2 in
+    (
+      l .inv .0,
+      omega (arith, l .inv .1),
+      rowed-next g (s .args .sets .now) (s .args .skips .now) (s .args .starts .now) (s .args .cells .now) (s .pre .1 .0) (s .pre .0) (s .args .s) (s .args .share) (s .pre .1 .1 .0) _ _ _ _ _ _ _ _ (m .inv .0) _ (m .inv .1) (c .if1 .left),
+      clear-on g (s .args .s) (s .args .share) (s .args .ahead) (l .number) _ (l .inv .3) (rowed-clear g (s .args .sets .now) (s .args .skips .now) (s .args .starts .now) (s .args .cells .now) (s .pre .1 .0) (s .pre .0) (s .args .s) (s .args .share) (s .pre .1 .1 .0) _ _ _ _ _ _ _ _ (m .inv .0) _ (m .inv .1) (c .if1 .left)),
+    )
 
--- src/find.rt:185:9
 add-d : tie.Need-add-d Inv-loop2 μ-loop2 Inv-loop μ-loop Inv-find μ-find
-add-d c = ?
+add-d c = omega arith
 
--- src/find.rt:158:5
 find-less : tie.Need-find-less Inv-loop2 μ-loop2 Inv-loop μ-loop Inv-find μ-find
-find-less c = ?
+find-less c = omega arith
 
--- src/find.rt:158:5
 find-again : tie.Need-find-again Inv-loop2 μ-loop2 Inv-loop μ-loop Inv-find μ-find
-find-again c = ?
+find-again c =
+    let s = c .before .before .before .before .before .before .before .before .before .before .before .before .before .before .before .before .before in
+    let g = graphOf (s .args .rows .now) (s .args .left .now) (s .args .right .now) (s .args .divisors .now) in
+    let f = c .before .before .before .before .before .before .before .before .find in
+    let l = c .before .loop in
+    (l .inv .1, size-next g (s .args .sets .now) (s .args .skips .now) (s .args .starts .now) (s .args .cells .now) (s .pre .1 .0) (s .pre .0) (s .args .s) (s .args .share) (s .pre .1 .1 .0) (f .d) (l .i) (l .number) (l .inv .2) (l .inv .0 .half) (omega (arith, l .inv .0 .to-is)), l .inv .3)
 
--- src/find.rt:188:9
 nowhere-requires : tie.Need-nowhere-requires Inv-loop2 μ-loop2 Inv-loop μ-loop Inv-find μ-find
-nowhere-requires c κs = ?
+nowhere-requires c κs = tt
 
--- src/find.rt:188:9
 returns : tie.Need-returns Inv-loop2 μ-loop2 Inv-loop μ-loop Inv-find μ-find
-returns c = ?
+returns c =
+    let s = c .before .before .before .before .before .before .before .before .before .before .before .before in
+    let g = graphOf (s .args .rows .now) (s .args .left .now) (s .args .right .now) (s .args .divisors .now) in
+    let f = c .before .before .before .find in
+    rw (c .nowhere .ensures) (none-left g (s .args .sets .now) (s .args .skips .now) (s .args .starts .now) (s .args .cells .now) (s .pre .1 .0) (s .pre .0) (s .args .s) (s .args .share) (s .pre .1 .1 .0) (f .d) (f .i) (f .number) (s .args .ahead) (f .inv .1) (c .before .if3 .taken) (f .inv .0) (f .inv .2))
 
--- src/find.rt:195:31
-first-of-requires-2 :
-    tie.Need-first-of-requires-2 Inv-loop2 μ-loop2 Inv-loop μ-loop Inv-find μ-find
-first-of-requires-2 c κs = ?
+first-of-requires-2 : tie.Need-first-of-requires-2 Inv-loop2 μ-loop2 Inv-loop μ-loop Inv-find μ-find
+first-of-requires-2 c κs =
+    let s = c .before .before .before .before .before .before .before .before .before .before .before in
+    let g = graphOf (s .args .rows .now) (s .args .left .now) (s .args .right .now) (s .args .divisors .now) in
+    let f = c .before .before .find in
+    ⊎-elim (λ w. absurd (omega arith))
+    (λ w. omega (arith, w .17, s .pre .1 .0 .starts-long, s .pre .0 .few-tables, f .inv .1 .known, f .inv .1 .from-one, few-all g (s .args .sets .now) (s .args .skips .now) (s .args .starts .now) (s .args .cells .now) (s .pre .1 .0) (s .pre .0) (s .args .s) (s .args .share) (s .pre .1 .1 .0) (f .d) (w .6 .i) (w .6 .number) _ _ _ _ _ (w .6 .inv .2) (w .6 .inv .0) (w .7 .taken) .2))
+    (c .before .find-test .came)
 
--- src/find.rt:195:27
 sub-t49 : tie.Need-sub-t49 Inv-loop2 μ-loop2 Inv-loop μ-loop Inv-find μ-find
-sub-t49 c = ?
+sub-t49 c =
+    let s = c .before .before .before .before .before .before .before .before .before .before .before .before .before in
+    let g = graphOf (s .args .rows .now) (s .args .left .now) (s .args .right .now) (s .args .divisors .now) in
+    let f = c .before .before .before .before .find in
+    ⊎-elim (λ w. absurd (omega arith))
+    (λ w. let e : c .before .first-of2 .result ≡ w .9 .result = c .before .first-of2 .ensures ∙ ap (firstOf (s .args .starts .now) (s .args .s) (f .d)) (w .17) ∙ sym (w .9 .ensures) in let n = rowed-place g (s .args .sets .now) (s .args .skips .now) (s .args .starts .now) (s .args .cells .now) (s .pre .1 .0) (s .pre .0) (s .args .s) (s .args .share) (s .pre .1 .1 .0) _ _ _ _ _ _ _ _ (w .11 .inv .0) (w .11 .j) (w .11 .inv .1) (w .13 .taken) in omega (arith, e, w .18, n .0))
+    (c .before .before .before .find-test .came)
 
--- src/find.rt:195:17
 add-t50 : tie.Need-add-t50 Inv-loop2 μ-loop2 Inv-loop μ-loop Inv-find μ-find
-add-t50 c = ?
+add-t50 c =
+    let s = c .before .before .before .before .before .before .before .before .before .before .before .before .before in
+    let g = graphOf (s .args .rows .now) (s .args .left .now) (s .args .right .now) (s .args .divisors .now) in
+    let f = c .before .before .before .before .find in
+    ⊎-elim (λ w. absurd (omega arith))
+    (λ w. let e : c .before .first-of2 .result ≡ w .9 .result = c .before .first-of2 .ensures ∙ ap (firstOf (s .args .starts .now) (s .args .s) (f .d)) (w .17) ∙ sym (w .9 .ensures) in let n = rowed-place g (s .args .sets .now) (s .args .skips .now) (s .args .starts .now) (s .args .cells .now) (s .pre .1 .0) (s .pre .0) (s .args .s) (s .args .share) (s .pre .1 .1 .0) _ _ _ _ _ _ _ _ (w .11 .inv .0) (w .11 .j) (w .11 .inv .1) (w .13 .taken) in omega (arith, e, w .18, w .19, n .1))
+    (c .before .before .before .find-test .came)
 
--- src/find.rt:132:1
 returns-2 : tie.Need-returns-2 Inv-loop2 μ-loop2 Inv-loop μ-loop Inv-find μ-find
-returns-2 c = ?
+returns-2 c =
+    let s = c .before .before .before .before .before .before .before .before .before .before .before .before .before in
+    let g = graphOf (s .args .rows .now) (s .args .left .now) (s .args .right .now) (s .args .divisors .now) in
+    let f = c .before .before .before .before .find in
+    ⊎-elim (λ w. absurd (omega arith))
+    (λ w. let e : c .before .first-of2 .result ≡ w .9 .result = c .before .first-of2 .ensures ∙ ap (firstOf (s .args .starts .now) (s .args .s) (f .d)) (w .17) ∙ sym (w .9 .ensures) in
+      rw (w .17, w .18, w .19, e) (rowed-found g (s .args .sets .now) (s .args .skips .now) (s .args .starts .now) (s .args .cells .now) (s .pre .1 .0) (s .pre .0) (s .args .s) (s .args .share) (s .pre .1 .1 .0) _ _ _ _ _ _ _ _ (w .11 .inv .0) (w .11 .j) (w .11 .inv .1) (s .args .ahead) (w .11 .inv .2) (w .11 .inv .3) (w .13 .taken) (w .15 .ensures) (w .16 .taken)))
+    (c .before .before .before .find-test .came)
 
 pub find-spec : {M : Type 1} → statement M
 find-spec =
