@@ -1,12 +1,14 @@
 -- How the search goes through driving rows: what a row that is done, a size that is done and a pair that is found tell of the next pair.
-use mathlib.Core.Path.{_≡_, refl, sym, ap, _∙_}
+use mathlib.Core.Path.{_≡_, refl, sym, ap, ap₂, _∙_}
 use mathlib.Core.Bool.{Bool, true, false, cond}
 use mathlib.Core.List.{List}
-use Prim.Native.Nat.{ℕ, suc, _+_, _-_, _/_, _≤_, _<_}
+use Prim.Native.Nat.{ℕ, zero, suc, _+_, _-_, _*_, _/_, _≤_, _<_}
 use native.Mathlib.Decide.{decLt}
+use native.Mathlib.Nat.{mul-suc, mul-le-mul}
 use native.Mathlib.Numerals.{add-one}
 use native.Mathlib.Omega.{arith}
 use lib.Dec.{eqb}
+use borrow.Author.Tests.{eq-eqb, ne-eqb}
 use lib.ListN.{length, getD, length-take}
 use Rattle.rules.specs.Query.{Graph, tableCount}
 use Rattle.rules.specs.Checked.{GoodGraph}
@@ -18,7 +20,7 @@ use Rattle.pairs.specs.declared.shares.Share.{Share}
 use Rattle.pairs.specs.declared.shares.Span.{Span}
 use Rattle.pairs.specs.Shares.{few, ShareFits, ShareOf, spanOf, onSpan, inSpan}
 use Rattle.pairs.specs.Joinable.{isJoinable}
-use Rattle.pairs.specs.Places.{startOf, cellOf, firstOf, firstRow, endRow, aheadOf, ownAt, countAt, countTo, Ground, SpanCells, Along, RowFrom, At, nowhere, NextFrom}
+use Rattle.pairs.specs.Places.{startOf, cellOf, firstOf, firstRow, endRow, aheadOf, ownAt, rowsIn, countAt, countTo, Ground, SpanCells, Along, RowFrom, At, nowhere, NextFrom}
 use Rattle.pairs.specs.PlaceLaws.{start-next, start-mono, start-memo, ahead-row, ahead-size, ahead-zero, ahead-end, first-from, first-le, memo-few, memo-inside, ahead-met, met-few}
 use Rattle.pairs.specs.SpanLaws.{span-true, share-total, share-fits, Lies, span-lies, on-lies, on-after}
 use Rattle.pairs.specs.LeafLaws.{Walked, walked-found}
@@ -302,14 +304,75 @@ module _ (g : Graph) (sets cells starts cellStarts : List ℕ) (z : Ground g set
         ahead = omega (arith, here .number, here .inner-from, here .inner-to, ahead-row g s (p .size) (p .row) (here .row-from));
       }
 
+      -- the same, by the values that the search keeps
+      module _ (end : ℕ) (e : end ≡ getD starts (s - p .size + 1) 0) (own : Span) (o : own ≡ onSpan h (p .number) (p .inner) end) where
+        end-known : end ≡ endRow g s (p .size)
+        end-known = e ∙ z .starts-known (s - p .size + 1) (omega arith) (omega (arith, known, here .from-one, here .to-half))
+
+        own-known : own ≡ on
+        own-known = o ∙ ap (onSpan h (p .number) (p .inner)) end-known
+
+        pub next-cells : SpanCells sets cells (getD starts (s - p .size) 0) (getD cellStarts (s - p .size) 0) (s - p .size) own
+        next-cells =
+            rw (own-known, z .starts-known (s - p .size) (omega (arith, here .to-half)) (omega (arith, known)), z .cells-known (s - p .size) (omega (arith, here .to-half)) (omega (arith, known))) on-cells
+
+        module _ (r : ℕ) (al : Along g sets (getD sets (p .row) 0) own r) where
+          pub next-found : r < own .end → NextFrom g s h (p .number + 1) (record { left = true; size = p .size; row = p .row; inner = r; number = p .number + (r - p .inner) })
+          next-found l = on-found r (rw own-known at al) (rw own-known at l)
+
+          pub next-clear : own .end ≤ r → Clear g s h (p .number + 1) (p .number + (end - p .inner))
+          next-clear l = rw end-known (on-clear r (rw own-known at al) (rw own-known at l))
+
+          pub next-after : r < own .end → (p .inner < r) × (r < end)
+          next-after l =
+              let i : Lies (p .inner + 1) (endRow g s (p .size)) own = rw own-known on-inside in
+              (omega (arith, i .after, span-true own r (al .found l .0) .0), omega (arith, i .ends, end-known))
+
+        pub next-row : RowFrom g s (p .size) (p .row + 1) (p .number + (end - p .inner))
+        next-row = rw end-known on-next
+
+        pub next-fits : (p .number + (end - p .inner) ≤ few) × (p .inner < end) × (end ≤ few) × (p .row < few)
+        next-fits =
+            let n = next-row in
+            let m = memo-few g good in (
+              omega (arith, n .ahead, ahead-met g s (p .size) (p .row + 1) (n .from-one) (here .to-half) (n .row-from) (n .row-to), met-few g good s known),
+              omega (arith, end-known, here .inner-to),
+              omega (arith, end-known, m, start-memo g (s - p .size + 1) (omega (arith, known, here .from-one, here .to-half))),
+              omega (arith, m, memo-inside g (p .size) (p .row) (here .from-one) (here .row-from) (here .row-to)),
+            )
+
+-- from a later candidate on, where none of those between is the worker's
+pub next-on : (g : Graph) (s : ℕ) (h : Share) (x y : ℕ) (p : Place) → x ≤ y → Clear g s h x y → NextFrom g s h y p → NextFrom g s h x p
+next-on g s h x y p l c n = record { waits = n .waits; ahead = omega (arith, n .ahead); clear = clear-on g s h x y (p .number) c (n .clear) }
+
 -- ---- how many candidates the sizes up to k + 1 have
 pub count-none : (starts : List ℕ) (s : ℕ) → countTo starts s 0 ≡ 0
 unfolding countTo
 count-none starts s = refl
 
-pub count-next : (starts : List ℕ) (s k : ℕ) → countTo starts s (k + 1) ≡ countTo starts s k + countAt starts s (k + 1)
+-- each two rows of one size, once
+pub two-of : (n : ℕ) → (n * n - n) / 2 ≡ n * (n - 1) / 2
+two-of zero = refl
+two-of (suc n) = let e : suc n * suc n - suc n ≡ suc n * (suc n - 1) = (let f : suc n - 1 ≡ n = omega arith in rw f (omega (arith, mul-suc (suc n) n))) in ap (λ (k : ℕ). k / 2) e
+
+pub le-square : (n : ℕ) → n ≤ n * n
+le-square zero = omega arith
+le-square (suc n) = omega (arith, mul-suc (suc n) n)
+
+-- products of rows stay small
+pub times-fit : (a b : ℕ) → a ≤ 65536 → b ≤ 65536 → a * b ≤ 4294967296
+times-fit a b x y = mul-le-mul {n₁ = a} {m₁ = b} {n₂ = 65536} {m₂ = 65536} x y
+
+count-more : (starts : List ℕ) (s k : ℕ) → countTo starts s (k + 1) ≡ countTo starts s k + countAt starts s (k + 1)
 unfolding countTo
-count-next starts s k = rw (add-one k)
+count-more starts s k = rw (add-one k)
+
+-- one more driving size, half of the result size, or less
+pub count-half : (starts : List ℕ) (s k : ℕ) {n m : ℕ} → n ≡ countTo starts s k → k + 1 + (k + 1) ≡ s → m ≡ n + (rowsIn starts (k + 1) * rowsIn starts (k + 1) - rowsIn starts (k + 1)) / 2 → m ≡ countTo starts s (k + 1)
+count-half starts s k e h i = i ∙ ap₂ (λ (a b : ℕ). a + b) e (two-of (rowsIn starts (k + 1)) ∙ sym (rw (eq-eqb (k + 1 + (k + 1)) s h))) ∙ sym (count-more starts s k)
+
+pub count-less : (starts : List ℕ) (s k : ℕ) {n m : ℕ} → n ≡ countTo starts s k → (k + 1 + (k + 1) ≡ s → ⊥) → m ≡ n + rowsIn starts (k + 1) * rowsIn starts (s - (k + 1)) → m ≡ countTo starts s (k + 1)
+count-less starts s k e h i = i ∙ ap₂ (λ (a b : ℕ). a + b) e (sym (rw (ne-eqb (k + 1 + (k + 1)) s h))) ∙ sym (count-more starts s k)
 
 -- ---- the first driving row of a size
 pub first-row : (g : Graph) (s : ℕ) → 2 ≤ s → s ≤ tableCount g → RowFrom g s 1 (startOf g 1) 0

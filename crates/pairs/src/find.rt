@@ -308,7 +308,7 @@ pub fn count_candidates(starts: &[usize], s: usize) -> usize
         let driving = starts[d + 1] - starts[d];
         let inner = starts[s - d + 1] - starts[s - d];
         if d + d == s {
-            count += driving * (driving - 1) / 2;
+            count += (driving * driving - driving) / 2;
         } else {
             count += driving * inner;
         }

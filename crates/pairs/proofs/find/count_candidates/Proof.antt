@@ -1,117 +1,144 @@
+use mathlib.Core.Path.{_≡_, refl, sym}
+use mathlib.Core.Logic.{⊎-elim}
+use Prim.Native.Nat.{_+_, _-_, _*_, _/_, _≤_}
+use native.Mathlib.Omega.{arith}
+use Rattle.pairs.specs.Places.{rowsIn, countTo}
+use Rattle.pairs.specs.FindLaws.{count-none, count-half, count-less, le-square, times-fit}
 use Rattle.pairs.proofs.find.count_candidates.Statement.{statement}
 use Rattle.pairs.proofs.find.count_candidates.Tie as tie
-use Rattle.pairs.proofs.find.count_candidates.Reads as reads
-use Rattle.pairs.proofs.find.count_candidates.Lts as lts
 
 abbrev Inv-loop : tie.InvT-loop
-Inv-loop starts s count₀ k₀ k-end count k = ?
+Inv-loop starts s count₀ k₀ k-end count k = (k ≤ s / 2) × (k-end ≡ s / 2) × (count ≤ k * 4294967296) × (count ≡ countTo starts s k)
 
 abbrev μ-loop : tie.MeasureT-loop
-μ-loop starts s count₀ k₀ k-end count k = ?
+μ-loop starts s count₀ k₀ k-end count k = k-end - k
 
--- src/find.rt:306:5
 loop-holds : tie.Need-loop-holds Inv-loop μ-loop
-loop-holds c = ?
+loop-holds c =
+    let s = c in
+    (omega arith, refl, omega arith, sym (count-none (s .args .starts .now) (s .args .s)))
 
--- src/find.rt:307:17
 add-d : tie.Need-add-d Inv-loop μ-loop
-add-d c = ?
+add-d c = omega arith
 
--- src/find.rt:308:30
 add-driving : tie.Need-add-driving Inv-loop μ-loop
-add-driving c = ?
+add-driving c = omega arith
 
--- src/find.rt:308:23
 mul-driving : tie.Need-mul-driving Inv-loop μ-loop
-mul-driving c = ?
+mul-driving c = omega arith
 
--- src/find.rt:308:23
 shared-slice-read-driving : tie.Need-shared-slice-read-driving Inv-loop μ-loop
-shared-slice-read-driving c = ?
+shared-slice-read-driving c = omega arith
 
--- src/find.rt:308:39
 mul-driving-2 : tie.Need-mul-driving-2 Inv-loop μ-loop
-mul-driving-2 c = ?
+mul-driving-2 c = omega arith
 
--- src/find.rt:308:39
 shared-slice-read-driving-2 : tie.Need-shared-slice-read-driving-2 Inv-loop μ-loop
-shared-slice-read-driving-2 c = ?
+shared-slice-read-driving-2 c = omega arith
 
--- src/find.rt:308:23
 sub-driving : tie.Need-sub-driving Inv-loop μ-loop
-sub-driving c = ?
+sub-driving c =
+    let s = c .before .before .before .before in
+    let l = c .before .before .before .loop in
+    omega (arith, s .pre .3 .forward (l .k + 1) (omega arith) (omega arith))
 
--- src/find.rt:309:28
 sub-inner : tie.Need-sub-inner Inv-loop μ-loop
-sub-inner c = ?
+sub-inner c = omega arith
 
--- src/find.rt:309:28
 add-inner : tie.Need-add-inner Inv-loop μ-loop
-add-inner c = ?
+add-inner c = omega arith
 
--- src/find.rt:309:21
 mul-inner : tie.Need-mul-inner Inv-loop μ-loop
-mul-inner c = ?
+mul-inner c = omega arith
 
--- src/find.rt:309:21
 shared-slice-read-inner : tie.Need-shared-slice-read-inner Inv-loop μ-loop
-shared-slice-read-inner c = ?
+shared-slice-read-inner c = omega arith
 
--- src/find.rt:309:48
 sub-inner-2 : tie.Need-sub-inner-2 Inv-loop μ-loop
-sub-inner-2 c = ?
+sub-inner-2 c = omega arith
 
--- src/find.rt:309:41
 mul-inner-2 : tie.Need-mul-inner-2 Inv-loop μ-loop
-mul-inner-2 c = ?
+mul-inner-2 c = omega arith
 
--- src/find.rt:309:41
 shared-slice-read-inner-2 : tie.Need-shared-slice-read-inner-2 Inv-loop μ-loop
-shared-slice-read-inner-2 c = ?
+shared-slice-read-inner-2 c = omega arith
 
--- src/find.rt:309:21
 sub-inner-3 : tie.Need-sub-inner-3 Inv-loop μ-loop
-sub-inner-3 c = ?
+sub-inner-3 c =
+    let s = c .before .before .before .before .before .before in
+    let l = c .before .before .before .before .before .loop in
+    omega (arith, s .pre .3 .forward (s .args .s - (l .k + 1)) (omega arith) (omega arith))
 
--- src/find.rt:310:12
 add-if1 : tie.Need-add-if1 Inv-loop μ-loop
-add-if1 c = ?
+add-if1 c = omega arith
 
--- src/find.rt:311:33
-sub-count : tie.Need-sub-count Inv-loop μ-loop
-sub-count c = ?
-
--- src/find.rt:311:22
 mul-count : tie.Need-mul-count Inv-loop μ-loop
-mul-count c = ?
+mul-count c =
+    let s = c .before .before .before .before .before .before .before in
+    let l = c .before .before .before .before .before .before .loop in
+    let a = s .pre .3 .fits (l .k + 1) (omega arith) (omega arith) in
+    let d = rowsIn (s .args .starts .now) (l .k + 1) in
+    let p = times-fit d d a a in
+    omega (arith, p)
 
--- src/find.rt:311:13
+sub-count : tie.Need-sub-count Inv-loop μ-loop
+sub-count c =
+    let s = c .before .before .before .before .before .before .before in
+    let l = c .before .before .before .before .before .before .loop in
+    le-square (rowsIn (s .args .starts .now) (l .k + 1))
+
 add-count : tie.Need-add-count Inv-loop μ-loop
-add-count c = ?
+add-count c =
+    let s = c .before .before .before .before .before .before .before in
+    let l = c .before .before .before .before .before .before .loop in
+    let a = s .pre .3 .fits (l .k + 1) (omega arith) (omega arith) in
+    let d = rowsIn (s .args .starts .now) (l .k + 1) in
+    let p = times-fit d d a a in
+    omega (arith, p)
 
--- src/find.rt:313:22
 mul-count-2 : tie.Need-mul-count-2 Inv-loop μ-loop
-mul-count-2 c = ?
+mul-count-2 c =
+    let s = c .before .before .before .before .before .before .before in
+    let l = c .before .before .before .before .before .before .loop in
+    let a = s .pre .3 .fits (l .k + 1) (omega arith) (omega arith) in
+    let b = s .pre .3 .fits (s .args .s - (l .k + 1)) (omega arith) (omega arith) in
+    let p = times-fit (rowsIn (s .args .starts .now) (l .k + 1)) (rowsIn (s .args .starts .now) (s .args .s - (l .k + 1))) a b in
+    omega (arith, p)
 
--- src/find.rt:313:13
 add-count-2 : tie.Need-add-count-2 Inv-loop μ-loop
-add-count-2 c = ?
+add-count-2 c =
+    let s = c .before .before .before .before .before .before .before in
+    let l = c .before .before .before .before .before .before .loop in
+    let a = s .pre .3 .fits (l .k + 1) (omega arith) (omega arith) in
+    let b = s .pre .3 .fits (s .args .s - (l .k + 1)) (omega arith) (omega arith) in
+    let p = times-fit (rowsIn (s .args .starts .now) (l .k + 1)) (rowsIn (s .args .starts .now) (s .args .s - (l .k + 1))) a b in
+    omega (arith, p)
 
--- src/find.rt:306:9
 add-k : tie.Need-add-k Inv-loop μ-loop
-add-k c = ?
+add-k c = omega arith
 
--- src/find.rt:306:5
 loop-less : tie.Need-loop-less Inv-loop μ-loop
-loop-less c = ?
+loop-less c = omega arith
 
--- src/find.rt:306:5
 loop-again : tie.Need-loop-again Inv-loop μ-loop
-loop-again c = ?
+loop-again c =
+    let s = c .before .before .before .before .before .before .before in
+    let l = c .before .before .before .before .before .before .loop in
+    let a = s .pre .3 .fits (l .k + 1) (omega arith) (omega arith) in
+    let d = rowsIn (s .args .starts .now) (l .k + 1) in
+    let p = times-fit d d a a in
+    let b = s .pre .3 .fits (s .args .s - (l .k + 1)) (omega arith) (omega arith) in
+    let q = times-fit (rowsIn (s .args .starts .now) (l .k + 1)) (rowsIn (s .args .starts .now) (s .args .s - (l .k + 1))) a b in
+    ⊎-elim
+    (λ w. (omega arith, l .inv .1, omega (arith, w .1, p), count-half (s .args .starts .now) (s .args .s) (l .k) (l .inv .3) (w .0 .taken) (w .1)))
+    (λ w. (omega arith, l .inv .1, omega (arith, w .1, q), count-less (s .args .starts .now) (s .args .s) (l .k) (l .inv .3) (w .0 .left) (w .1)))
+    (c .if1 .came)
 
--- src/find.rt:301:1
 returns : tie.Need-returns Inv-loop μ-loop
-returns c = ?
+returns c =
+    let l = c .before .loop in
+    let e : l .k ≡ c .before .before .args .s / 2 = omega arith in
+    rw e at (l .inv .3)
 
 pub count-candidates-spec : {M : Type 1} → statement M
 count-candidates-spec =
@@ -136,8 +163,8 @@ count-candidates-spec =
     shared-slice-read-inner-2
     sub-inner-3
     add-if1
-    sub-count
     mul-count
+    sub-count
     add-count
     mul-count-2
     add-count-2
