@@ -1,3 +1,5 @@
 -- What a turn is, how the memo stands between turns, and the theorems of a size.
 pub mod Standing
 pub mod StandingLaws
+pub mod QueueLaws
+pub mod StepLaws

@@ -4,14 +4,16 @@ use mathlib.Core.Logic.{_⊎_}
 use mathlib.Core.Bool.{Bool, true, false}
 use mathlib.Core.List.{List, map}
 use Prim.Native.Nat.{ℕ, suc, _+_, _-_, _*_, _≤_, _<_}
-use lib.ListN.{length, getD, set, take}
+use lib.ListN.{length, getD, set, take, drop}
 use Rattle.rules.specs.Limits.{costBound}
 use Rattle.rules.specs.declared.Scheme.{Scheme}
 use Rattle.rules.specs.declared.Scheme.the-variants.{CutCandidates}
+use Rattle.rules.specs.Lists.{keep}
 use Rattle.rules.specs.Query.{Graph, Query, tableCount}
 use Rattle.rules.specs.Estimate.{estimate}
 use Rattle.rules.specs.Rows.{memo}
 use Rattle.rules.specs.Shares.{Numbered, met}
+use Rattle.rules.specs.Turns.{Hand}
 use Rattle.rules.specs.Log.{Pair, union}
 use Rattle.rules.specs.Checked.{GoodGraph}
 use Rattle.rules.specs.Answers.{Row}
@@ -123,13 +125,13 @@ pub record Handing (g : Graph) (fixed outer inner result : List ℕ) (s : ℕ) (
   pub worker : v′ ≡ record { share = v .share; place = v′ .place; last = row; handed = v .handed + 1 }
 
 -- "A turn hands its worker that worker's next joinable pair; with none left it changes nothing."
-pub record Stepped (g : Graph) (fixed outer inner result : List ℕ) (s : ℕ) (v v′ : Worker) (old new : Columns) (pair : code.Handed) : Type 0 where
+pub record StepTaken (g : Graph) (fixed outer inner result : List ℕ) (s : ℕ) (v v′ : Worker) (old new : Columns) (pair : code.Handed) : Type 0 where
   pub none : v .place .left ≡ false → (v′ ≡ v) × (new ≡ old) × (pair ≡ noPair)
   pub some : v .place .left ≡ true → Handing g fixed outer inner result s v v′ old new pair
 
 -- a turn of worker w: no other worker moves
-pub record Turned (g : Graph) (fixed outer inner result : List ℕ) (s w : ℕ) (workers workers′ : List Worker) (old new : Columns) (pair : code.Handed) : Type 0 where
-  pub step : Stepped g fixed outer inner result s (workerAt workers w) (workerAt workers′ w) old new pair
+pub record TurnTaken (g : Graph) (fixed outer inner result : List ℕ) (s w : ℕ) (workers workers′ : List Worker) (old new : Columns) (pair : code.Handed) : Type 0 where
+  pub step : StepTaken g fixed outer inner result s (workerAt workers w) (workerAt workers′ w) old new pair
   pub others : workers′ ≡ set workers w (workerAt workers′ w)
 
 -- ---- the memo as turns leave it
@@ -166,3 +168,12 @@ pub record Standing (q : Query) (scheme : Scheme) (m s : ℕ) (workers : List Wo
   pub smaller : (r : ℕ) → r < startOf (q .graph) s → FinalRow q (getD (memo (q .graph)) r 0) (choiceIn c r)
   pub rows : (r : ℕ) → startOf (q .graph) s ≤ r → r < startOf (q .graph) (s + 1) → Stood q (Passed (q .graph) scheme m s (placesOf workers)) (getD (memo (q .graph)) r 0) (choiceIn c r)
   pub larger : (r : ℕ) → startOf (q .graph) (s + 1) ≤ r → r < length (memo (q .graph)) → choiceIn c r ≡ unset
+
+-- ---- queues
+-- what is left to each worker at its place
+abbrev pub queuesAt : Graph → Scheme → ℕ → ℕ → List Worker → ℕ → List Numbered
+queuesAt g scheme m s workers w = keep (mine g scheme m s w) (drop (placesOf workers w) (met g s))
+
+-- what a turn of worker w hands, where it has a pair left: the candidate at its place
+abbrev pub handAt : Graph → ℕ → List Worker → ℕ → Hand Numbered
+handAt g s workers w = record { worker = w; candidate = metAt g s (placesOf workers w) }

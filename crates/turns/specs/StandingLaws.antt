@@ -42,7 +42,7 @@ use Rattle.pairs.specs.Places.{startOf, metAt, noCandidate, candidateAt, At, ow
 use Rattle.pairs.specs.PlaceLaws.{start-next, start-mono, start-memo, memo-row}
 use Rattle.pairs.specs.GroundLaws.{at-number}
 use Rattle.results.specs.Prices.{choiceAt, kept, OneWay, BothWays}
-use Rattle.turns.specs.Standing.{Columns, choiceIn, stored, unset, Reach, Ready, nobody, workerAt, Crew, setsOf, pairAt, Handing, Stepped, Turned, Passed, Stood, FinalRow, Final, placesOf, Standing}
+use Rattle.turns.specs.Standing.{Columns, choiceIn, stored, unset, Reach, Ready, nobody, workerAt, Crew, setsOf, pairAt, Handing, StepTaken, TurnTaken, Passed, Stood, FinalRow, Final, placesOf, Standing}
 
 -- ---- rows of the memo
 once-at : (l : List ℕ) → Once l → (i j : ℕ) → i < length l → j < length l → getD l i 0 ≡ getD l j 0 → i ≡ j
@@ -202,7 +202,7 @@ module _ (q : Query) (sound : Sound q) (scheme : Scheme) (m s : ℕ) (two : 2 �
 
   -- A TURN keeps it
   module _ (workers workers′ : List Worker) (old new : Columns) (pair : code.Handed) (w : ℕ) (worker : w < m) (reach : Reach (q .graph) old)
-      (st : Standing q scheme m s workers old) (t : Turned (q .graph) (q .fixed) (q .perOuter) (q .perInner) (q .perResult) s w workers workers′ old new pair) where
+      (st : Standing q scheme m s workers old) (t : TurnTaken (q .graph) (q .fixed) (q .perOuter) (q .perInner) (q .perResult) s w workers workers′ old new pair) where
     -- no other worker moves
     other-worker : (v : ℕ) → (v ≡ w → ⊥) → workerAt workers′ v ≡ workerAt workers v
     other-worker v n = ap (λ (l : List Worker). workerAt l v) (t .others) ∙ getD-set-other workers w v (workerAt workers′ w) nobody n

@@ -2,7 +2,7 @@
 ghost use mathlib.Core.Path.{_≡_};
 ghost use Prim.Native.Nat.{_<_};
 ghost use Rattle.rules.specs.Query.{graphOf};
-ghost use Rattle.turns.specs.Standing.{columns, Board, Ready, workerAt, noPair, Stepped, Turned};
+ghost use Rattle.turns.specs.Standing.{columns, Board, Ready, workerAt, noPair, StepTaken, TurnTaken};
 use pairs::find::next_pair;
 use pairs::places::Place;
 use pairs::shares::Share;
@@ -72,7 +72,7 @@ pub fn step(
 ) -> Stepped
     requires { ⌜ Board (graphOf (now rows) (now left) (now right) (now divisors)) (now fixed) (now outer) (now inner) (now result) (now sets) (now estimates) (now skips) (now starts) (now cells) s (columns (now costs) (now outers) (now methods)) ⌝ }
     requires { ⌜ Ready (graphOf (now rows) (now left) (now right) (now divisors)) s worker ⌝ }
-    ensures { λ r. ⌜ Stepped (graphOf (now (rows .entry)) (now (left .entry)) (now (right .entry)) (now (divisors .entry))) (now (fixed .entry)) (now (outer .entry)) (now (inner .entry)) (now (result .entry)) s worker (r .worker) (columns (now (costs .entry)) (now (outers .entry)) (now (methods .entry))) (columns (now (costs .exit)) (now (outers .exit)) (now (methods .exit))) (r .pair) ⌝ }
+    ensures { λ r. ⌜ StepTaken (graphOf (now (rows .entry)) (now (left .entry)) (now (right .entry)) (now (divisors .entry))) (now (fixed .entry)) (now (outer .entry)) (now (inner .entry)) (now (result .entry)) s worker (r .worker) (columns (now (costs .entry)) (now (outers .entry)) (now (methods .entry))) (columns (now (costs .exit)) (now (outers .exit)) (now (methods .exit))) (r .pair) ⌝ }
 {
     let place = worker.place;
     if !place.left {
@@ -152,7 +152,7 @@ pub fn turn(
 ) -> Turned
     requires { ⌜ Board (graphOf (now rows) (now left) (now right) (now divisors)) (now fixed) (now outer) (now inner) (now result) (now sets) (now estimates) (now skips) (now starts) (now cells) s (columns (now costs) (now outers) (now methods)) ⌝ }
     requires { ⌜ (w < 8) × Ready (graphOf (now rows) (now left) (now right) (now divisors)) s (workerAt workers w) ⌝ }
-    ensures { λ r. ⌜ Turned (graphOf (now (rows .entry)) (now (left .entry)) (now (right .entry)) (now (divisors .entry))) (now (fixed .entry)) (now (outer .entry)) (now (inner .entry)) (now (result .entry)) s w workers (r .workers) (columns (now (costs .entry)) (now (outers .entry)) (now (methods .entry))) (columns (now (costs .exit)) (now (outers .exit)) (now (methods .exit))) (r .pair) ⌝ }
+    ensures { λ r. ⌜ TurnTaken (graphOf (now (rows .entry)) (now (left .entry)) (now (right .entry)) (now (divisors .entry))) (now (fixed .entry)) (now (outer .entry)) (now (inner .entry)) (now (result .entry)) s w workers (r .workers) (columns (now (costs .entry)) (now (outers .entry)) (now (methods .entry))) (columns (now (costs .exit)) (now (outers .exit)) (now (methods .exit))) (r .pair) ⌝ }
 {
     let worker = workers[w];
     let stepped = step(
