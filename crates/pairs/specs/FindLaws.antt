@@ -273,15 +273,18 @@ module _ (g : Graph) (sets cells starts cellStarts : List ℕ) (z : Ground g set
             let u : r < endRow g s (p .size) = omega (arith, on-inside .ends) in
             record {
               waits = record {
-                there = λ _. (record {
-                  from-one = here .from-one;
-                  to-half = here .to-half;
-                  row-from = here .row-from;
-                  row-to = here .row-to;
-                  inner-from = omega (arith, here .inner-from);
-                  inner-to = u;
-                  number = omega (arith, here .number, here .inner-from);
-                }, own-on g sets cells starts cellStarts z s h sh (p .size) (p .row) (p .inner) (here .from-one) (here .to-half) (here .row-from) (here .row-to) (here .inner-from) (p .number) r (here .number) is j u (f .0) (f .1));
+                there = λ _. (
+                  record {
+                    from-one = here .from-one;
+                    to-half = here .to-half;
+                    row-from = here .row-from;
+                    row-to = here .row-to;
+                    inner-from = omega (arith, here .inner-from);
+                    inner-to = u;
+                    number = omega (arith, here .number, here .inner-from);
+                  },
+                  own-on g sets cells starts cellStarts z s h sh (p .size) (p .row) (p .inner) (here .from-one) (here .to-half) (here .row-from) (here .row-to) (here .inner-from) (p .number) r (here .number) is j u (f .0) (f .1),
+                );
                 none = λ q. absurd (not-both true refl q);
               };
               ahead = omega arith;

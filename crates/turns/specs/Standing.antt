@@ -74,7 +74,7 @@ pub record Ready (g : Graph) (s : ℕ) (v : Worker) : Type 0 where
 
 -- no worker
 abbrev pub nobody : Worker
-nobody = record { share = shareOf CutCandidates 1 0 0; place = nowhere 0; last = 0; handed = 0 }
+nobody = record { share = record { scheme = CutCandidates; workers = 0; worker = 0; total = 0; from = 0; to = 0 }; place = nowhere 0; last = 0; handed = 0 }
 
 -- worker w of the table
 abbrev pub workerAt : List Worker → ℕ → Worker

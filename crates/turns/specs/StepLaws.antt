@@ -1,12 +1,13 @@
 -- What a turn may rely on at its worker's place, and what makes it a turn.
 use mathlib.Core.Path.{_≡_, refl, sym, ap, _∙_}
-use mathlib.Core.Bool.{true, false}
+use mathlib.Core.Logic.{⊎-elim}
+use mathlib.Core.Bool.{true}
 use mathlib.Core.List.{List, map}
 use Prim.Native.Nat.{ℕ, _+_, _-_, _/_, _^_, _≤_, _<_}
 use native.Mathlib.Omega.{arith}
-use lib.ListN.{length, getD, take, length-take}
+use lib.ListN.{length, getD, set, length-take, length-set}
 use lib.Pow.{pow-mono}
-use lib.Seq.{slice, getD-take}
+use lib.Seq.{slice, getD-take, getD-set-same}
 use Rattle.rules.specs.Limits.{costBound}
 use Rattle.rules.specs.Sets.{size, Splits}
 use Rattle.rules.specs.Query.{Graph, tableCount}
@@ -16,12 +17,14 @@ use Rattle.rules.specs.Rows.{rowsOf, memo}
 use Rattle.rules.specs.Candidates.{joinable}
 use Rattle.rules.specs.Shares.{met, owns}
 use Rattle.rules.specs.Log.{Pair, union}
-use Rattle.rules.specs.laws.Bools.{and-true-r}
+use Rattle.rules.specs.laws.Bools.{true-or-false, and-true-r}
 use Rattle.rules.specs.laws.Lists.{at-in, at-map, length-map}
 use Rattle.rules.specs.laws.Sets.{splits-size}
 use Rattle.rules.specs.laws.Connected.{connected-join}
 use Rattle.rules.specs.laws.Rows.{rows-only, below-all}
 use Rattle.rules.specs.laws.Estimate.{estimate-le}
+use Rattle.rules.specs.laws.Choice.{Best}
+use Rattle.rules.specs.laws.Choice as order
 use Rattle.rules.specs.laws.Handed.{JoinablePair}
 use Rattle.rules.specs.laws.Complete.{mine, met-joinable}
 use Rattle.memo.specs.Walk.{upTo}
@@ -30,12 +33,14 @@ use Rattle.memo.specs.FindLaws.{rows-sized, rows-in-order, rows-stand}
 use Rattle.memo.specs.LayoutLaws.{rows-part}
 use Rattle.turns.specs.declared.turn.Worker.{Worker}
 use Rattle.turns.specs.declared.turn.Handed as code
+use Rattle.pairs.specs.declared.places.Place.{Place}
 use Rattle.pairs.specs.Shares.{few}
-use Rattle.pairs.specs.Places.{startOf, metAt, noCandidate, candidateAt, At, ownAt}
+use Rattle.pairs.specs.Places.{startOf, metAt, noCandidate, At, NextFrom}
 use Rattle.pairs.specs.PlaceLaws.{start-mono, start-memo, first-from, memo-row, in-size}
 use Rattle.pairs.specs.GroundLaws.{ground-set, at-number}
-use Rattle.results.specs.Prices.{Estimates}
-use Rattle.turns.specs.Standing.{Columns, Board, Ready, setsOf, pairAt}
+use Rattle.results.specs.declared.price.Choice.{Choice}
+use Rattle.results.specs.Prices.{choiceOf, kept, Estimates, BothWays}
+use Rattle.turns.specs.Standing.{Columns, choiceIn, stored, Board, Ready, pairAt, Handing, StepTaken, nobody, workerAt, TurnTaken}
 use Rattle.turns.specs.StandingLaws.{at-smaller}
 
 module _ {g : Graph} {fixed outer inner result sets estimates cells starts cellStarts : List ℕ} {s : ℕ} {c : Columns} (b : Board g fixed outer inner result sets estimates cells starts cellStarts s c) where
@@ -45,9 +50,10 @@ module _ {g : Graph} {fixed outer inner result sets estimates cells starts cellS
 
   pub estimate-at : (r : ℕ) → r < length (memo g) → (r < length estimates) × (getD estimates r 0 ≡ estimate g (getD (memo g) r 0))
   estimate-at r l =
-      let n : length (map (estimate g) (memo g)) ≡ length (memo g) = length-map (estimate g) (memo g) in
-      (omega (arith, length-take (length (memo g)) estimates, ap length (b .estimated), n),
-        sym (getD-take (length (memo g)) estimates r 0 l) ∙ ap (λ (x : List ℕ). getD x r 0) (b .estimated) ∙ at-map (estimate g) 0 (memo g) r l)
+      let n : length (map (estimate g) (memo g)) ≡ length (memo g) = length-map (estimate g) (memo g) in (
+        omega (arith, length-take (length (memo g)) estimates, ap length (b .estimated), n),
+        sym (getD-take (length (memo g)) estimates r 0 l) ∙ ap (λ (x : List ℕ). getD x r 0) (b .estimated) ∙ at-map (estimate g) 0 (memo g) r l,
+      )
 
   -- where the rows of size s begin and end
   pub from-is : getD starts s 0 ≡ startOf g s
@@ -111,10 +117,11 @@ module _ {g : Graph} {fixed outer inner result sets estimates cells starts cellS
     -- sought among the rows of its size
     pub seek-in : SizeRows sets (getD starts s 0) (getD starts (s + 1) 0) (size (union (pairAt g v))) 32 × InOrder sets (getD starts s 0) (getD starts (s + 1) 0) × (union (pairAt g v) < 2 ^ 32)
     seek-in =
-        let few-tables : tableCount g ≤ 32 = omega (arith, b .graph .few-tables) in
-        (rw union-size (rows-sized g s sets (getD starts s 0) (getD starts (s + 1) 0) (ends .0) (ends .1) part 32 few-tables),
+        let few-tables : tableCount g ≤ 32 = omega (arith, b .graph .few-tables) in (
+          rw union-size (rows-sized g s sets (getD starts s 0) (getD starts (s + 1) 0) (ends .0) (ends .1) part 32 few-tables),
           rows-in-order g s sets (getD starts s 0) (getD starts (s + 1) 0) (ends .0) (ends .1) part few-tables,
-          omega (arith, below-all g (union (pairAt g v)) union-connected, pow-mono {i = tableCount g} {j = 32} few-tables))
+          omega (arith, below-all g (union (pairAt g v)) union-connected, pow-mono {i = tableCount g} {j = 32} few-tables),
+        )
 
     -- it is found
     pub seek-found : (row : ℕ) → ((p : ℕ) → Stands sets (getD starts s 0) (getD starts (s + 1) 0) (union (pairAt g v)) p → row ≡ p)
@@ -127,3 +134,74 @@ module _ {g : Graph} {fixed outer inner result sets estimates cells starts cellS
     -- costs of the two can be added
     pub base-fits : getD (c .costs) (v .place .row) 0 + getD (c .costs) (v .place .inner) 0 < costBound + costBound
     base-fits = omega (arith, b .below (v .place .row) (smaller .0), b .below (v .place .inner) (smaller .1))
+
+    -- ---- the turn, by the values that it computes
+    seek-sum : (row : ℕ) → ((p : ℕ) → Stands sets (getD starts s 0) (getD starts (s + 1) 0) (getD sets (v .place .row) 0 + getD sets (v .place .inner) 0) p → row ≡ p)
+        → (startOf g s ≤ row) × (row < startOf g (s + 1)) × (row < length (memo g)) × (getD (memo g) row 0 ≡ union (pairAt g v))
+    seek-sum row h = seek-found row (rw (set-at (v .place .row) driving-inside .1, set-at (v .place .inner) inner-inside .1) at h)
+
+    -- what is sought
+    pub seek-ready : SizeRows sets (getD starts s 0) (getD starts (s + 1) 0) (size (getD sets (v .place .row) 0 + getD sets (v .place .inner) 0)) 32 × InOrder sets (getD starts s 0) (getD starts (s + 1) 0) × (getD sets (v .place .row) 0 + getD sets (v .place .inner) 0 < 2 ^ 32)
+    seek-ready = rw (set-at (v .place .row) driving-inside .1, set-at (v .place .inner) inner-inside .1) seek-in
+
+    module _ (row : ℕ) (found : (p : ℕ) → Stands sets (getD starts s 0) (getD starts (s + 1) 0) (getD sets (v .place .row) 0 + getD sets (v .place .inner) 0) p → row ≡ p) where
+      pub row-inside : row < length (memo g)
+      row-inside = seek-sum row found .2
+
+      -- the three estimates are within their limit
+      pub estimates-fit : Estimates (getD estimates (v .place .row) 0) (getD estimates (v .place .inner) 0) (getD estimates row 0)
+      estimates-fit = record {
+        first = rw (estimate-at (v .place .row) driving-inside .1) (estimate-le g (getD (memo g) (v .place .row) 0));
+        second = rw (estimate-at (v .place .inner) inner-inside .1) (estimate-le g (getD (memo g) (v .place .inner) 0));
+        result = rw (estimate-at row row-inside .1) (estimate-le g (getD (memo g) row 0));
+      }
+
+      -- THE TURN: pricing and keeping make it
+      pub handing : (k : Choice) → Best (BothWays fixed outer inner result (getD sets (v .place .row) 0) (getD sets (v .place .inner) 0)
+          (getD estimates (v .place .row) 0) (getD estimates (v .place .inner) 0) (getD estimates row 0)
+          (getD (c .costs) (v .place .row) 0 + getD (c .costs) (v .place .inner) 0)) (choiceOf k)
+          → {cost : ℕ} → cost ≡ kept (choiceIn c row) (choiceOf k) .cost → {new : Columns} → new ≡ stored c row (kept (choiceIn c row) (choiceOf k))
+          → (next : Place) → NextFrom g s (v .share) (v .place .number + 1) next
+          → Handing g fixed outer inner result s v (record { share = v .share; place = next; last = row; handed = v .handed + 1 }) c new
+          (record { found = true; driving = getD sets (v .place .row) 0; inner = getD sets (v .place .inner) 0; cost = cost })
+      handing k best e f next n =
+          let r = seek-sum row found in
+          let dx = set-at (v .place .row) driving-inside .1 in
+          let dy = set-at (v .place .inner) inner-inside .1 in
+          let ex = estimate-at (v .place .row) driving-inside .1 in
+          let ey = estimate-at (v .place .inner) inner-inside .1 in
+          let er = estimate-at row row-inside .1 ∙ ap (estimate g) (r .3) in
+          record {
+            row = row;
+            row-from = r .0;
+            row-to = r .1;
+            row-set = r .3;
+            offer = choiceOf k;
+            best = rw (dx, dy, ex, ey, er) at best;
+            changed = f;
+            answer = λ t. record { found = true; driving = dx t; inner = dy t; cost = e t };
+            next = n;
+            worker = refl;
+          }
+
+-- ---- what a turn leaves of columns and table
+module _ {g : Graph} {fixed outer inner result : List ℕ} {s : ℕ} {v v′ : Worker} {old new : Columns} {pair : code.Handed} (t : StepTaken g fixed outer inner result s v v′ old new pair) where
+  -- every column keeps its length
+  step-kept : (f : Columns → List ℕ) → ((r : ℕ) (k : order.Choice) → length (f (stored old r k)) ≡ length (f old)) → length (f new) ≡ length (f old)
+  step-kept f h = ⊎-elim (λ e. let z = t .some e in ap (λ (c : Columns). length (f c)) (z .changed) ∙ h (z .row) _) (λ e. ap (λ (c : Columns). length (f c)) (t .none e .1)) (true-or-false (v .place .left))
+
+  pub step-costs : length (new .costs) ≡ length (old .costs)
+  step-costs = step-kept (λ c. c .costs) (λ r k. length-set (old .costs) r (k .cost))
+
+  pub step-outers : length (new .outers) ≡ length (old .outers)
+  step-outers = step-kept (λ c. c .outers) (λ r k. length-set (old .outers) r (k .outer))
+
+  pub step-methods : length (new .methods) ≡ length (old .methods)
+  step-methods = step-kept (λ c. c .methods) (λ r k. length-set (old .methods) r (k .method))
+
+-- one worker's turn, and no other worker moves
+pub turn-of : {g : Graph} {fixed outer inner result : List ℕ} {s : ℕ} {v′ : Worker} {old new : Columns} {pair : code.Handed} (workers : List Worker) (w : ℕ) → w < length workers
+    → StepTaken g fixed outer inner result s (workerAt workers w) v′ old new pair → TurnTaken g fixed outer inner result s w workers (set workers w v′) old new pair
+turn-of {v′ = v′} workers w l t =
+    let e : workerAt (set workers w v′) w ≡ v′ = getD-set-same workers w v′ nobody l in
+    record { step = rw e t; others = ap (set workers w) (sym e) }

@@ -74,6 +74,7 @@ pub fn step(
     requires { ⌜ Ready (graphOf (now rows) (now left) (now right) (now divisors)) s worker ⌝ }
     ensures { λ r. ⌜ StepTaken (graphOf (now (rows .entry)) (now (left .entry)) (now (right .entry)) (now (divisors .entry))) (now (fixed .entry)) (now (outer .entry)) (now (inner .entry)) (now (result .entry)) s worker (r .worker) (columns (now (costs .entry)) (now (outers .entry)) (now (methods .entry))) (columns (now (costs .exit)) (now (outers .exit)) (now (methods .exit))) (r .pair) ⌝ }
 {
+    let share = worker.share;
     let place = worker.place;
     if !place.left {
         return Stepped {
@@ -109,12 +110,12 @@ pub fn step(
         starts,
         cells,
         s,
-        worker.share,
+        share,
         place,
     );
     Stepped {
         worker: Worker {
-            share: worker.share,
+            share: share,
             place: next,
             last: row,
             handed: worker.handed + 1,
@@ -175,10 +176,12 @@ pub fn turn(
         s,
         worker,
     );
+    let moved = stepped.worker;
+    let pair = stepped.pair;
     let mut next = workers;
-    next[w] = stepped.worker;
+    next[w] = moved;
     Turned {
         workers: next,
-        pair: stepped.pair,
+        pair: pair,
     }
 }

@@ -163,8 +163,7 @@ span-of-requires c κs =
     let g = graphOf (s .args .rows .now) (s .args .left .now) (s .args .right .now) (s .args .divisors .now) in
     let f = c .before .before .before .before .before .before .before .before .before .before .find in
     let l = c .before .before .before .loop in
-    let few = few-all g (s .args .sets .now) (s .args .skips .now) (s .args .starts .now) (s .args .cells .now) (s .pre .1 .0) (s .pre .0) (s .args .s) (s .args .share) (s .pre .1 .1 .0) (f .d) (l .i) (l .number) _ _ _ _ _ (l .inv .2) (l .inv .0) (c .before .before .loop-test .taken) in
-    (
+    let few = few-all g (s .args .sets .now) (s .args .skips .now) (s .args .starts .now) (s .args .cells .now) (s .pre .1 .0) (s .pre .0) (s .args .s) (s .args .share) (s .pre .1 .1 .0) (f .d) (l .i) (l .number) _ _ _ _ _ (l .inv .2) (l .inv .0) (c .before .before .loop-test .taken) in (
       share-fits g (s .args .s) (s .args .share) (s .pre .1 .1 .0) (s .pre .0) (l .inv .2 .known),
       few .0,
       omega (arith, few .2),
@@ -177,8 +176,7 @@ loop2-holds c =
     let s = c .before .before .before .before .before .before .before .before .before .before .before .before .before .before .before .before .before .before .before .before in
     let g = graphOf (s .args .rows .now) (s .args .left .now) (s .args .right .now) (s .args .divisors .now) in
     let f = c .before .before .before .before .before .before .before .before .before .before .before .find in
-    let l = c .before .before .before .before .loop in
-    (
+    let l = c .before .before .before .before .loop in (
       rowed-of g (s .args .sets .now) (s .args .skips .now) (s .args .starts .now) (s .args .cells .now) (s .pre .1 .0) (s .pre .0) (s .args .s) (s .args .share) (s .pre .1 .1 .0) (f .d) (l .i) (l .number) _ _ _ _ _ (l .inv .2) (l .inv .0) (c .before .before .before .loop-test .taken) (c .before .first-of .result) (c .before .first-of .ensures) (c .span-of .result) (c .span-of .ensures),
       walked-none _ _ _ _,
       l .inv .1,
@@ -247,8 +245,7 @@ loop-again c =
     let s = c .before .before .before .before .before .before .before .before .before .before .before .before .before .before .before .before .before .before .before .before .before .before .before in
     let g = graphOf (s .args .rows .now) (s .args .left .now) (s .args .right .now) (s .args .divisors .now) in
     let l = c .before .before .before .before .before .before .before .loop in
-    let m = c .before .before .loop2 in
-    (
+    let m = c .before .before .loop2 in (
       l .inv .0,
       omega (arith, l .inv .1),
       rowed-next g (s .args .sets .now) (s .args .skips .now) (s .args .starts .now) (s .args .cells .now) (s .pre .1 .0) (s .pre .0) (s .args .s) (s .args .share) (s .pre .1 .1 .0) _ _ _ _ _ _ _ _ (m .inv .0) _ (m .inv .1) (c .if1 .left),
@@ -313,7 +310,7 @@ returns-2 c =
     let f = c .before .before .before .before .find in
     ⊎-elim (λ w. absurd (omega arith))
     (λ w. let e : c .before .first-of2 .result ≡ w .9 .result = c .before .first-of2 .ensures ∙ ap (firstOf (s .args .starts .now) (s .args .s) (f .d)) (w .17) ∙ sym (w .9 .ensures) in
-      rw (w .17, w .18, w .19, e) (rowed-found g (s .args .sets .now) (s .args .skips .now) (s .args .starts .now) (s .args .cells .now) (s .pre .1 .0) (s .pre .0) (s .args .s) (s .args .share) (s .pre .1 .1 .0) _ _ _ _ _ _ _ _ (w .11 .inv .0) (w .11 .j) (w .11 .inv .1) (s .args .ahead) (w .11 .inv .2) (w .11 .inv .3) (w .13 .taken) (w .15 .ensures) (w .16 .taken)))
+    rw (w .17, w .18, w .19, e) (rowed-found g (s .args .sets .now) (s .args .skips .now) (s .args .starts .now) (s .args .cells .now) (s .pre .1 .0) (s .pre .0) (s .args .s) (s .args .share) (s .pre .1 .1 .0) _ _ _ _ _ _ _ _ (w .11 .inv .0) (w .11 .j) (w .11 .inv .1) (s .args .ahead) (w .11 .inv .2) (w .11 .inv .3) (w .13 .taken) (w .15 .ensures) (w .16 .taken)))
     (c .before .before .before .find-test .came)
 
 pub find-spec : {M : Type 1} → statement M
