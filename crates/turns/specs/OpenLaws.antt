@@ -1,0 +1,54 @@
+-- Opening a size, worker by worker.
+use mathlib.Core.Path.{_≡_, refl, ap, _∙_}
+use mathlib.Core.List.{List}
+use Prim.Native.Nat.{ℕ, _+_, _≤_, _<_}
+use native.Mathlib.Decide.{ℕ-discrete}
+use native.Mathlib.Omega.{arith}
+use lib.ListN.{length, set, length-set}
+use lib.Seq.{getD-set-same, getD-set-other}
+use Rattle.rules.specs.Limits.{maxWorkers}
+use Rattle.rules.specs.declared.Scheme.{Scheme}
+use Rattle.rules.specs.Query.{Graph}
+use Rattle.rules.specs.Shares.{met}
+use Rattle.pairs.specs.declared.places.Place.{Place}
+use Rattle.pairs.specs.declared.shares.Share.{Share}
+use Rattle.pairs.specs.Shares.{shareOf, ShareOf}
+use Rattle.pairs.specs.Places.{startOf, NextFrom}
+use Rattle.turns.specs.declared.turn.Worker.{Worker}
+use Rattle.turns.specs.Standing.{nobody, workerAt, Opening}
+
+-- a worker's share of the size
+pub share-is : (g : Graph) (s : ℕ) (scheme : Scheme) (m w : ℕ) {total : ℕ} {h : Share} → total ≡ length (met g s) → h ≡ shareOf scheme m w total → h ≡ shareOf scheme m w (length (met g s))
+share-is g s scheme m w e i = i ∙ ap (shareOf scheme m w) e
+
+pub share-ready : (g : Graph) (s : ℕ) (scheme : Scheme) (m w : ℕ) {h : Share} → 1 ≤ m → m ≤ maxWorkers → w < m → h ≡ shareOf scheme m w (length (met g s)) → ShareOf g s h
+share-ready g s scheme m w one eight l e = rw e (record { some-worker = one; few-workers = eight; worker = l; is = refl })
+
+module _ (g : Graph) (s : ℕ) (scheme : Scheme) (m : ℕ) (old : List Worker) where
+  pub opening-none : Opening g s scheme m 0 old old
+  opening-none = record { length-kept = refl; first = λ w l. absurd (omega arith); worker = λ w l. absurd (omega arith); others = λ w l. refl }
+
+  -- one more worker at its first pair
+  pub opening-more : {new : List Worker} (k : ℕ) (h : Share) (p : Place) (from : ℕ) → Opening g s scheme m k old new → k < length old → h ≡ shareOf scheme m k (length (met g s)) → NextFrom g s h 0 p → from ≡ startOf g s
+      → Opening g s scheme m (k + 1) old (set new k (record { share = h; place = p; last = from; handed = workerAt new k .handed }))
+  opening-more {new} k h p from z l e n f = record {
+    length-kept = length-set new k v ∙ z .length-kept;
+    first = λ w u. first w u (ℕ-discrete w k);
+    worker = λ w u. worker w u (ℕ-discrete w k);
+    others = λ w u. getD-set-other new k w v nobody (λ q. omega arith) ∙ z .others w (omega arith);
+  }
+    where
+      v : Worker
+      v = record { share = h; place = p; last = from; handed = workerAt new k .handed }
+
+      here : workerAt (set new k v) k ≡ v
+      here = getD-set-same new k v nobody (omega (arith, z .length-kept))
+
+      first : (w : ℕ) → w < k + 1 → Dec (w ≡ k) → NextFrom g s (shareOf scheme m w (length (met g s))) 0 (workerAt (set new k v) w .place)
+      first w u (yes q) = rw (q, here, ← e) n
+      first w u (no q) = rw (getD-set-other new k w v nobody q) (z .first w (omega arith))
+
+      worker : (w : ℕ) → w < k + 1 → Dec (w ≡ k)
+          → workerAt (set new k v) w ≡ record { share = shareOf scheme m w (length (met g s)); place = workerAt (set new k v) w .place; last = startOf g s; handed = workerAt old w .handed }
+      worker w u (yes q) = rw (q, here) (λ t. record { share = e t; place = p; last = f t; handed = ap (λ (x : Worker). x .handed) (z .others k (omega arith)) t })
+      worker w u (no q) = rw (getD-set-other new k w v nobody q) (z .worker w (omega arith))
