@@ -3,3 +3,4 @@ pub mod Standing
 pub mod StandingLaws
 pub mod QueueLaws
 pub mod StepLaws
+pub mod StartLaws
