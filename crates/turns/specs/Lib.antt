@@ -4,3 +4,4 @@ pub mod StandingLaws
 pub mod QueueLaws
 pub mod StepLaws
 pub mod OpenLaws
+pub mod StartLaws
