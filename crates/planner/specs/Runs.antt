@@ -1,23 +1,29 @@
 -- The turns in a row: what holds between two sizes, and between two turns of a size.
 use mathlib.Core.Path.{_≡_}
+use mathlib.Core.Bool.{true, false, cond}
 use mathlib.Core.List.{List, [], _++_, map}
 use Prim.Native.Nat.{ℕ, suc, _+_, _-_, _*_, _≤_, _<_}
-use lib.ListN.{length, drop, set}
+use lib.Dec.{ltb}
+use lib.ListN.{length, getD, take, drop, set}
 use Rattle.rules.specs.Limits.{maxWorkers}
 use Rattle.rules.specs.declared.Scheme.{Scheme}
 use Rattle.rules.specs.Sets.{size}
 use Rattle.rules.specs.Query.{Graph, Query, tableCount}
-use Rattle.rules.specs.Shares.{Numbered, met, queue}
+use Rattle.rules.specs.Estimate.{estimate}
+use Rattle.rules.specs.Rows.{memo}
+use Rattle.rules.specs.Skips.{skips}
+use Rattle.rules.specs.Shares.{Numbered, queue}
 use Rattle.rules.specs.Turns.{Hand, Run, Sizes, only}
 use Rattle.rules.specs.Log.{Pair, pairOf, union}
 use Rattle.rules.specs.Refusals.{Memory}
-use Rattle.rules.specs.Answers.{Logged}
+use Rattle.rules.specs.Checked.{Sound}
+use Rattle.rules.specs.Answers.{Spared, Logged, perWorker}
 use Rattle.rules.specs.laws.Turns.{Below}
 use Rattle.rules.specs.laws.Handed.{among, JoinablePair}
 use Rattle.turns.specs.declared.turn.Worker.{Worker}
 use Rattle.turns.specs.declared.turn.Handed as code
 use Rattle.pairs.specs.Shares.{few}
-use Rattle.turns.specs.Standing.{Columns, nobody, workerAt, Passed, Final, placesOf, Standing, queuesAt}
+use Rattle.turns.specs.Standing.{Columns, choiceIn, unset, Reach, nobody, workerAt, Passed, FinalRow, Final, placesOf, Standing, queuesAt}
 
 -- ---- sizes in a row, of n in all, from size 2 on
 module _ (m : ℕ) (queues : ℕ → ℕ → List Numbered) (n : ℕ) (turns : List ℕ) where
@@ -54,6 +60,28 @@ pub record LogFits (l : Memory) : Type 0 where
   pub inner : length (l .logInner) ≡ length (l .logWorkers)
   pub costs : length (l .logCosts) ≡ length (l .logWorkers)
 
+-- with a pair or without one
+abbrev pub notedIf : Memory → ℕ → ℕ → code.Handed → Memory
+notedIf l j w p = cond (p .found) (noted l j w p) l
+
+abbrev pub countIf : ℕ → code.Handed → ℕ
+countIf j p = cond (p .found) (j + 1) j
+
+-- ---- whose turn it is
+-- r is the lowest of m workers with a pair left, or m
+pub record LowestLeft (workers : List Worker) (m r : ℕ) : Type 0 where
+  pub inside : r ≤ m
+  pub lower : (v : ℕ) → v < r → workerAt workers v .place .left ≡ false
+  pub left : r < m → workerAt workers r .place .left ≡ true
+
+-- "Each entry of the list is one turn"; "When the list is used up, the lowest-numbered worker with a pair left has the turn"
+abbrev pub whose : List ℕ → ℕ → ℕ → ℕ
+whose turns at low = cond (ltb at (length turns)) (getD turns at 0) low
+
+-- the entries used after one more turn
+abbrev pub entriesOn : ℕ → ℕ → ℕ
+entriesOn n at = cond (ltb at n) (at + 1) at
+
 -- "eight per-worker pair counts": how many each worker was handed; absent workers stand as they began
 pub record Tallied (m : ℕ) (workers : List Worker) (h : List (Hand Numbered)) : Type 0 where
   pub table : length workers ≡ maxWorkers
@@ -88,3 +116,33 @@ pub record Running (q : Query) (scheme : Scheme) (m : ℕ) (turns : List ℕ) (l
   pub logged : Logged q handed lent log
   pub count : pairs ≡ length handed
   pub tally : Tallied m workers handed
+
+-- how many pairs each worker was handed
+abbrev pub countsOf : List Worker → List ℕ
+countsOf workers = map (λ (v : Worker). v .handed) workers
+
+-- ---- the whole search
+-- what it may rely on: a checked query and crew, and a memo as laying out leaves it
+pub record SearchReady (q : Query) (m : ℕ) (turns sets estimates cells : List ℕ) (c : Columns) (log : Memory) : Type 0 where
+  pub sound : Sound q
+  pub some-worker : 1 ≤ m
+  pub few-workers : m ≤ maxWorkers
+  pub turns-known : (j : ℕ) → j < length turns → getD turns j 0 < m
+  pub sets-laid : take (length (memo (q .graph))) sets ≡ memo (q .graph)
+  pub cells-laid : take (length (skips (q .graph))) cells ≡ skips (q .graph)
+  pub estimated : take (length (memo (q .graph))) estimates ≡ map (estimate (q .graph)) (memo (q .graph))
+  pub reach : Reach (q .graph) c
+  pub unset-all : (r : ℕ) → r < length (memo (q .graph)) → choiceIn c r ≡ unset
+  pub log-fits : LogFits log
+
+-- what it leaves: each row final, the spare ones as they were; log, pairs and counts are those of the turns in a row
+pub record SearchDone (q : Query) (scheme : Scheme) (m : ℕ) (turns : List ℕ) (old new : Columns) (log log′ : Memory) (pairs : ℕ) (counts : List ℕ) : Type 0 where
+  pub handed : List (Hand Numbered)
+  pub sizes : Sizes m (queue (q .graph) scheme m) 2 (tableCount (q .graph) - 1) turns handed
+  pub rows : (r : ℕ) → r < length (memo (q .graph)) → FinalRow q (getD (memo (q .graph)) r 0) (choiceIn new r)
+  pub costs : Spared (length (memo (q .graph))) (old .costs) (new .costs)
+  pub outers : Spared (length (memo (q .graph))) (old .outers) (new .outers)
+  pub methods : Spared (length (memo (q .graph))) (old .methods) (new .methods)
+  pub logged : Logged q handed log log′
+  pub count : pairs ≡ length handed
+  pub tallies : counts ≡ perWorker (λ w. length (only w handed))

@@ -1,0 +1,5 @@
+-- The turns in a row, the log, the counts, and the laws that planning is proved by.
+pub mod Runs
+pub mod LogLaws
+pub mod TallyLaws
+pub mod RunLaws
