@@ -2,4 +2,5 @@
 pub mod Runs
 pub mod LogLaws
 pub mod TallyLaws
+pub mod LeafLaws
 pub mod RunLaws
