@@ -4,3 +4,6 @@ pub mod LogLaws
 pub mod TallyLaws
 pub mod LeafLaws
 pub mod RunLaws
+pub mod SearchLaws
+pub mod Plans
+pub mod PlanLaws

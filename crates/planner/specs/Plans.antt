@@ -1,6 +1,8 @@
 -- What `plan` takes and gives, as the rules see it.
 use mathlib.Core.List.{List}
 use Prim.Native.Nat.{ℕ}
+use lib.ListN.{replicate}
+use Rattle.rules.specs.Limits.{maxWorkers}
 use Rattle.rules.specs.Query.{Query}
 use Rattle.rules.specs.Refusals.{Memory, Input}
 use Rattle.rules.specs.Answers as rules
@@ -30,3 +32,7 @@ answerOf a = record { refusal = a .refusal; place = a .place; best = a .best; ro
 
 abbrev pub outcomeOf : Answer → Memory → rules.Outcome
 outcomeOf a left = record { answer = answerOf a; left = left }
+
+-- "All return the number, the place and zeros"
+abbrev pub refusedWith : ℕ → ℕ → Answer
+refusedWith number place = record { refusal = number; place = place; best = 0; rows = 0; cells = 0; pairs = 0; counts = replicate maxWorkers 0 }
