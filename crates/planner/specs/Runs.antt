@@ -163,6 +163,11 @@ pub record Within (q : Query) (scheme : Scheme) (m : ℕ) (turns : List ℕ) (ol
   pub kept : Kept (q .graph) old c
   pub log-fits : LogFits log
 
+-- whatever was kept and lent before, what stood at one turn of a size stands, carried on, at a later one
+pub record Carried (q : Query) (scheme : Scheme) (m : ℕ) (turns : List ℕ) (s low₀ : ℕ) (workers₀ : List Worker) (at₀ pairs₀ : ℕ) (c₀ : Columns) (log₀ : Memory)
+    (low : ℕ) (workers : List Worker) (at pairs : ℕ) (c : Columns) (log : Memory) : Type 0 where
+  pub carry : (old : Columns) (lent : Memory) → LogFits lent → Within q scheme m turns old lent s low₀ workers₀ at₀ pairs₀ c₀ log₀ → Within q scheme m turns old lent s low workers at pairs c log
+
 -- what it leaves: each row final, the spare ones as they were; log, pairs and counts are those of the turns in a row
 pub record SearchDone (q : Query) (scheme : Scheme) (m : ℕ) (turns : List ℕ) (old new : Columns) (log log′ : Memory) (pairs : ℕ) (counts : List ℕ) : Type 0 where
   pub handed : List (Hand Numbered)

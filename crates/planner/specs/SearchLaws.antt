@@ -2,21 +2,27 @@
 use mathlib.Core.Path.{_≡_, refl, sym, ap, _∙_, subst}
 use mathlib.Core.Logic.{_⊎_, inl, inr, ⊎-elim}
 use mathlib.Core.Bool.{true, false, cond}
-use mathlib.Core.List.{List, [], _∷_}
-use Prim.Native.Nat.{ℕ, suc, _+_, _-_, _*_, _≤_, _<_}
+use mathlib.Core.List.{List, [], _∷_, map}
+use Prim.Native.Nat.{ℕ, zero, suc, _+_, _-_, _*_, _^_, _≤_, _<_}
 use native.Mathlib.Decide.{decLt}
 use native.Mathlib.Omega.{arith}
 use lib.Dec.{ltb}
-use lib.ListN.{length, getD, set, length-set}
+use lib.ListN.{length, getD, set, length-set, length-take, replicate, length-replicate}
 use lib.Seq.{drop-set-lt}
 use borrow.Author.Tests.{lt-ltb, le-ltb}
-use Rattle.rules.specs.Limits.{maxWorkers}
+use Rattle.rules.specs.Limits.{maxTables, maxWorkers}
 use Rattle.rules.specs.declared.Scheme.{Scheme}
 use Rattle.rules.specs.Query.{Graph, Query, tableCount}
 use Rattle.rules.specs.Rows.{memo}
 use Rattle.rules.specs.Refusals.{Memory}
 use Rattle.rules.specs.Checked.{Sound}
-use Rattle.rules.specs.Answers.{Spared}
+use Rattle.rules.specs.Shares.{Numbered}
+use Rattle.rules.specs.Turns.{Hand}
+use Rattle.rules.specs.Log.{pairOf}
+use Rattle.rules.specs.Lists.{over}
+use Rattle.rules.specs.Answers.{Spared, shown, Logged}
+use Rattle.rules.specs.laws.Lists.{length-map, over-length}
+use Rattle.memo.specs.Layout.{starts, cellStarts}
 use Rattle.rules.specs.laws.Bools.{true-or-false, not-both}
 use Rattle.memo.specs.Vectors.{written}
 use Rattle.turns.specs.declared.turn.Worker.{Worker}
@@ -26,8 +32,8 @@ use Rattle.pairs.specs.PlaceLaws.{start-next, start-memo}
 use Rattle.turns.specs.Standing.{Columns, columns, choiceIn, stored, Reach, Ready, Board, nobody, workerAt, Crew, Opened, TurnTaken}
 use Rattle.turns.specs.QueueLaws.{stillMet, turn-found, turn-progress, turn-progress-none}
 use Rattle.turns.specs.StepLaws.{step-costs, step-outers, step-methods}
-use Rattle.turns.specs.StartLaws.{one-rows, Starting, final-start, reach-start, Prepared, board-of}
-use Rattle.planner.specs.Runs.{logOf, notedIf, countIf, LowestLeft, whose, entriesOn, SameLog, LogFits, Ran, Running, SearchReady, Kept, Between, Within, SearchDone, countsOf}
+use Rattle.turns.specs.StartLaws.{one-rows, Starting, final-start, reach-start, ground-at, Prepared, board-of}
+use Rattle.planner.specs.Runs.{logOf, notedIf, countIf, LowestLeft, whose, entriesOn, SameLog, LogFits, Ran, Running, SearchReady, Kept, Between, Within, Carried, SearchDone, countsOf}
 use Rattle.planner.specs.RunLaws.{running-listed-some, running-lowest, running-listed-none, ran-start, running-open, pairs-few, running-closed, ran-sizes, ran-rows, ran-counts}
 
 -- ---- what is spare stays
@@ -179,36 +185,103 @@ module _ {q : Query} {scheme : Scheme} {m s : ℕ} {turns : List ℕ} {old : Col
   pub within-few : {workers : List Worker} {low : ℕ} → Within q scheme m turns old lent s low workers at pairs c log → pairs ≤ maxWorkers * (s * few)
   within-few z = pairs-few sound two size-known some few-workers (z .running)
 
+-- ---- a size's turns, carried on
+pub carried-start : (q : Query) (scheme : Scheme) (m : ℕ) (turns : List ℕ) (s low : ℕ) (workers : List Worker) (at pairs : ℕ) (c : Columns) (log : Memory) → Carried q scheme m turns s low workers at pairs c log low workers at pairs c log
+carried-start q scheme m turns s low workers at pairs c log = record { carry = λ old lent f z. z }
+
+pub carried-turn : {q : Query} {scheme : Scheme} {m s : ℕ} {turns : List ℕ} {low₀ at₀ pairs₀ : ℕ} {workers₀ : List Worker} {c₀ : Columns} {log₀ : Memory} {low at pairs : ℕ} {workers : List Worker} {c : Columns} {log : Memory}
+    → Sound q → 2 ≤ s → s ≤ tableCount (q .graph) → ((j : ℕ) → j < length turns → getD turns j 0 < m) → Carried q scheme m turns s low₀ workers₀ at₀ pairs₀ c₀ log₀ low workers at pairs c log → low < m
+    → {w : ℕ} → w ≡ whose turns at low → {workers′ : List Worker} {new : Columns} {pair : code.Handed} → TurnTaken (q .graph) (q .fixed) (q .perOuter) (q .perInner) (q .perResult) s w workers workers′ c new pair
+    → {low′ : ℕ} {log′ : Memory} → LowestLeft workers′ m low′ → log′ ≡ notedIf log pairs w pair → {at′ pairs′ : ℕ} → at′ ≡ entriesOn (length turns) at → pairs′ ≡ countIf pairs pair
+    → Carried q scheme m turns s low₀ workers₀ at₀ pairs₀ c₀ log₀ low′ workers′ at′ pairs′ new log′
+carried-turn sound two known entries z more e t l n a p = record { carry = λ old lent f w. rw (a, p) (within-turn sound two known f entries (z .carry old lent f w) more e t l n) }
+
+-- ---- bounds, over plain numbers
+pub two-of : {k : ℕ} → 1 ≤ k → 2 ≤ k + 1
+two-of h = omega arith
+
+pub size-of : {k e n : ℕ} → k < e → e ≡ n → k + 1 ≤ n
+size-of h e = omega arith
+
+pub below-eight : {w m : ℕ} → w < m → m ≤ maxWorkers → w < maxWorkers
+below-eight h e = omega arith
+
+pub few-pairs : {p s n : ℕ} → p ≤ maxWorkers * (s * few) → s ≤ n → n ≤ maxTables → p < 2 ^ 63
+few-pairs a b c = omega arith
+
+-- ---- lengths stay
+pub laid-length : (l v : List ℕ) {l′ : List ℕ} → l′ ≡ written l 0 v → length l′ ≡ length l
+laid-length l v e = ap length e ∙ spared-written (length v) 0 v l (omega arith) .length-kept
+
+pub logged-lengths : {q : Query} {h : List (Hand Numbered)} {lent log : Memory} → Logged q h lent log → LogFits lent
+    → (length (log .logWorkers) ≡ length (lent .logWorkers)) × (length (log .logDriving) ≡ length (lent .logDriving)) × (length (log .logInner) ≡ length (lent .logInner)) × (length (log .logCosts) ≡ length (lent .logCosts))
+logged-lengths {q} {h} {lent} {log} z f = (column (λ (x : Hand Numbered). x .worker) (lent .logWorkers) refl (z .workers), column (λ (x : Hand Numbered). pairOf x .driving) (lent .logDriving) (f .driving) (z .driving), column (λ (x : Hand Numbered). pairOf x .inner) (lent .logInner) (f .inner) (z .inner), z .spare .length-kept)
+  where
+    column : (f : Hand Numbered → ℕ) (l : List ℕ) {l′ : List ℕ} → length l ≡ length (lent .logWorkers) → l′ ≡ over (map f (shown lent h)) l → length l′ ≡ length l
+    column f l e i = ap length i ∙ over-length (map f (shown lent h)) l (omega (arith, length-map f (shown lent h), length-take (length (lent .logWorkers)) h))
+
 -- ---- the whole
 module _ {q : Query} {m : ℕ} {turns sets estimates cells : List ℕ} {c : Columns} {log : Memory} (z : SearchReady q m turns sets estimates cells c log) where
-  -- before the first size
-  pub between-start : (scheme : Scheme) {costs : List ℕ} (workers : List Worker) → costs ≡ written (c .costs) 0 (q .scans) → length workers ≡ maxWorkers → ((w : ℕ) → workerAt workers w ≡ nobody)
-      → Between q scheme m turns c log 2 workers 0 0 (columns costs (c .outers) (c .methods)) log
-  between-start scheme {costs} workers e l n =
-      let s : Starting q (z .oldCosts) (z .oldOuters) (z .oldMethods) (columns costs (c .outers) (c .methods)) = record {
-        costs-room = z .costs-room;
-        outers-room = z .outers-room;
-        methods-room = z .methods-room;
-        costs-are = e ∙ ap (λ (x : List ℕ). written x 0 (q .scans)) (z .costs-laid);
-        outers-are = z .outers-laid;
-        methods-are = z .methods-laid;
-      } in
-      record {
-        ran = ran-start scheme m turns log log workers (final-start q (z .sound) s) l n (record { workers = refl; driving = refl; inner = refl; costs = refl });
-        reach = reach-start q (z .sound) s;
-        kept = record { costs = rw e (spared-written (length (memo (q .graph))) 0 (q .scans) (c .costs) (omega (arith, z .sound .scan-list, one-rows (q .graph) .0, start-next (q .graph) 1 (omega arith), start-memo (q .graph) 2 (omega (arith, z .sound .graph .some-table))))); outers = spared-same _ _; methods = spared-same _ _ };
-        log-fits = z .log-fits;
-      }
+  scans-short : length (q .scans) ≤ length (memo (q .graph))
+  scans-short = omega (arith, z .sound .scan-list, one-rows (q .graph) .0, start-next (q .graph) 1 (omega arith), start-memo (q .graph) 2 (omega (arith, z .sound .graph .some-table)))
 
-  -- after the last
-  pub between-end : {scheme : Scheme} {workers : List Worker} {at pairs : ℕ} {new : Columns} {log′ : Memory} → Between q scheme m turns c log (tableCount (q .graph) + 1) workers at pairs new log′
-      → SearchDone q scheme m turns c new log log′ pairs (countsOf workers)
-  between-end b = record {
-    handed = b .ran .handed;
-    sizes = ran-sizes (b .ran) (z .sound .graph .some-table);
-    rows = ran-rows (b .ran);
-    kept = b .kept;
-    logged = b .ran .logged;
-    count = b .ran .count;
-    tallies = ran-counts (b .ran);
-  }
+  -- the scan costs have room
+  pub scans-fit : length (q .scans) ≤ length (c .costs)
+  scans-fit = omega (arith, scans-short, z .costs-room, ap length (z .costs-laid), spared-written (length (z .oldCosts)) 0 zeros (z .oldCosts) zeros-short .length-kept)
+    where
+      zeros : List ℕ
+      zeros = replicate (length (memo (q .graph))) 0
+
+      zeros-short : 0 + length zeros ≤ length (z .oldCosts)
+      zeros-short = let n : ℕ = 0 in omega (arith, length-replicate (length (memo (q .graph))) n, z .costs-room)
+
+  -- before the first size, once the scan costs are laid
+  module _ {costs : List ℕ} (e : costs ≡ written (c .costs) 0 (q .scans)) where
+    pub between-start : (scheme : Scheme) (workers : List Worker) → length workers ≡ maxWorkers → ((w : ℕ) → workerAt workers w ≡ nobody)
+        → Between q scheme m turns (columns costs (c .outers) (c .methods)) log 2 workers 0 0 (columns costs (c .outers) (c .methods)) log
+    between-start scheme workers l n =
+        let s : Starting q (z .oldCosts) (z .oldOuters) (z .oldMethods) (columns costs (c .outers) (c .methods)) = record {
+          costs-room = z .costs-room;
+          outers-room = z .outers-room;
+          methods-room = z .methods-room;
+          costs-are = e ∙ ap (λ (x : List ℕ). written x 0 (q .scans)) (z .costs-laid);
+          outers-are = z .outers-laid;
+          methods-are = z .methods-laid;
+        } in
+        record {
+          ran = ran-start scheme m turns log log workers (final-start q (z .sound) s) l n (record { workers = refl; driving = refl; inner = refl; costs = refl });
+          reach = reach-start q (z .sound) s;
+          kept = record { costs = spared-same _ _; outers = spared-same _ _; methods = spared-same _ _ };
+          log-fits = z .log-fits;
+        }
+
+    -- after the last
+    pub between-end : {scheme : Scheme} {workers : List Worker} {at pairs : ℕ} {new : Columns} {log′ : Memory} → Between q scheme m turns (columns costs (c .outers) (c .methods)) log (tableCount (q .graph) + 1) workers at pairs new log′
+        → SearchDone q scheme m turns c new log log′ pairs (countsOf workers)
+    between-end b = record {
+      handed = b .ran .handed;
+      sizes = ran-sizes (b .ran) (z .sound .graph .some-table);
+      rows = ran-rows (b .ran);
+      kept = record {
+        costs = spared-on (length (memo (q .graph))) (c .costs) costs _ (rw e (spared-written (length (memo (q .graph))) 0 (q .scans) (c .costs) (omega (arith, scans-short)))) (b .kept .costs);
+        outers = b .kept .outers;
+        methods = b .kept .methods;
+      };
+      logged = b .ran .logged;
+      count = b .ran .count;
+      tallies = ran-counts (b .ran);
+    }
+
+  -- what no turn changes
+  pub prepared : (oldStarts oldCellStarts : List ℕ) {starts₁ cellStarts₁ : List ℕ} → tableCount (q .graph) + 2 ≤ length oldStarts → tableCount (q .graph) + 2 ≤ length oldCellStarts
+      → starts₁ ≡ written oldStarts 0 (starts (q .graph)) → cellStarts₁ ≡ written oldCellStarts 0 (cellStarts (q .graph)) → Prepared q sets estimates cells starts₁ cellStarts₁
+  prepared oldStarts oldCellStarts a b h i = record { sound = z .sound; ground = ground-at (q .graph) oldStarts oldCellStarts (z .sets-laid) (z .cells-laid) a b h i; estimated = z .estimated }
+
+-- a table of nobodies
+pub nobodies : {v : Worker} → v ≡ nobody → (length (replicate maxWorkers v) ≡ maxWorkers) × ((w : ℕ) → workerAt (replicate maxWorkers v) w ≡ nobody)
+nobodies {v} e = (length-replicate maxWorkers v, λ w. ap (λ (x : Worker). workerAt (replicate maxWorkers x) w) e ∙ each-same maxWorkers w)
+  where
+    each-same : (n w : ℕ) → workerAt (replicate n nobody) w ≡ nobody
+    each-same zero w = refl
+    each-same (suc n) zero = refl
+    each-same (suc n) (suc w) = each-same n w
