@@ -23,8 +23,8 @@ use Rattle.rules.specs.Trees.{Least}
 use Rattle.rules.specs.Rows.{rowsOf, memo}
 use Rattle.rules.specs.Skips.{skips}
 use Rattle.rules.specs.Refusals.{Memory, Input, none, refuse, firstOf, checksOf, checks, rooms, verdict, memoLengths, logLengths}
-use Rattle.rules.specs.Checked.{Checked}
-use Rattle.rules.specs.Answers.{Spared, perWorker, refusal, Refused, Filled, Logged, Counted, Given, Planned}
+use Rattle.rules.specs.Checked.{GoodGraph, Checked}
+use Rattle.rules.specs.Answers.{each, Spared, refusal, Refused, Filled, Logged, Counted, Given, Planned}
 use Rattle.rules.specs.laws.Lists.{at-in, length-map}
 use Rattle.rules.specs.laws.Rows.{rows-only, rows-all, below-all}
 use Rattle.rules.specs.laws.Sets.{size-zero, full-only}
@@ -36,11 +36,12 @@ use Rattle.memo.specs.LayoutLaws.{laid-verdict, written-over, front, one-length
 use Rattle.turns.specs.Standing.{columns}
 use Rattle.turns.specs.StartLaws.{estimated-of}
 use Rattle.pairs.specs.Places.{startOf}
-use Rattle.pairs.specs.PlaceLaws.{start-next, start-end, in-size, memo-row}
+use Rattle.pairs.specs.PlaceLaws.{start-next, start-end, in-size, memo-row, memo-few}
+use Rattle.pairs.specs.Shares.{few}
 use Rattle.planner.specs.declared.Answer.{Answer}
 use Rattle.planner.specs.Runs.{logOf, LogFits, SearchReady, SearchDone}
-use Rattle.planner.specs.SearchLaws.{spared-written, spared-on}
-use Rattle.planner.specs.Plans.{inputOf, answerOf, outcomeOf}
+use Rattle.planner.specs.SearchLaws.{spared-written, spared-on, laid-length}
+use Rattle.planner.specs.Plans.{answerOf, outcomeOf, refusedWith}
 
 -- ---- refusals
 first-append : (a b : List Verdict) → firstOf (a ++ b) ≡ cond (eqb (firstOf a .number) 0) (firstOf b) (firstOf a)
@@ -76,6 +77,52 @@ rooms-place i = go (ltb (length (i .lent .sets)) (length (memo (i .query .graph)
 -- a refusal with nothing changed is what planning promises
 pub planned-refused : (i : Input) {a : Answer} {left : Memory} {v : Verdict} → v ≡ verdict i → (v .number ≡ 0 → ⊥) → answerOf a ≡ refusal v → left ≡ i .lent → Planned i (outcomeOf a left)
 planned-refused i e n r l = record { given = λ z. absurd (n (ap (λ (x : Verdict). x .number) e ∙ z)); refused = λ _. record { answer = r ∙ ap refusal e; lent = l } }
+
+-- the checks of an input, as `check` says them
+pub checks-are : (i : Input) → firstOf (checksOf (i .query) (i .workers) (i .scheme) (i .turns) (memoLengths (i .lent)) (logLengths (i .lent))) ≡ firstOf (checks i)
+unfolding checks
+checks-are i = refl
+
+-- "All return the number, the place and zeros"
+pub refused-answer : {a : Answer} (number place : ℕ) → a ≡ refusedWith number place → answerOf a ≡ refusal (record { number = number; place = place })
+unfolding each
+refused-answer number place e = ap answerOf e
+
+-- what laying out may rely on
+pub lay-ready : (i : Input) → firstOf (checks i) .number ≡ 0 → GoodGraph (i .query .graph) × OneLength (lentOf (i .lent))
+lay-ready i e =
+    let c = checked i e in
+    (c .sound .graph, record { estimates = c .columns .estimates; costs = c .columns .costs; outers = c .columns .outers; methods = c .columns .methods })
+
+-- laying out changes no length
+pub record SameLengths (old new : Lent) : Type 0 where
+  pub sets : length (new .sets) ≡ length (old .sets)
+  pub estimates : length (new .estimates) ≡ length (old .estimates)
+  pub costs : length (new .costs) ≡ length (old .costs)
+  pub outers : length (new .outers) ≡ length (old .outers)
+  pub methods : length (new .methods) ≡ length (old .methods)
+  pub skips : length (new .skips) ≡ length (old .skips)
+
+same-lengths : {old new : Lent} → new ≡ old → SameLengths old new
+same-lengths e = rw e (record { sets = refl; estimates = refl; costs = refl; outers = refl; methods = refl; skips = refl })
+
+pub laid-lengths : {g : Graph} {old new : Lent} {r : Laid} → LaidOut g old new r → SameLengths old new
+laid-lengths {g} {old} {new} z = go (decLt (length (old .sets)) (length (memo g))) (decLt (length (old .skips)) (length (skips g)))
+  where
+    go : Dec (length (old .sets) < length (memo g)) → Dec (length (old .skips) < length (skips g)) → SameLengths old new
+    go (yes h) d = same-lengths (z .refused13 h .1)
+    go (no h) (yes k) = same-lengths (z .refused14 (omega arith) k .1)
+    go (no h) (no k) =
+        let e = z .given (record { rows = omega arith; cells = omega arith }) .1 in
+        let zeros : List ℕ = replicate (length (memo g)) 0 in
+        record {
+          sets = laid-length (old .sets) (memo g) (ap (λ (x : Lent). x .sets) e);
+          estimates = laid-length (old .estimates) (map (estimate g) (memo g)) (ap (λ (x : Lent). x .estimates) e);
+          costs = laid-length (old .costs) zeros (ap (λ (x : Lent). x .costs) e);
+          outers = laid-length (old .outers) zeros (ap (λ (x : Lent). x .outers) e);
+          methods = laid-length (old .methods) zeros (ap (λ (x : Lent). x .methods) e);
+          skips = laid-length (old .skips) (skips g) (ap (λ (x : Lent). x .skips) e);
+        }
 
 -- refused by the checks
 pub planned-checks : (i : Input) {a : Answer} {left : Memory} {v : Verdict} → v ≡ firstOf (checks i) → (v .number ≡ 0 → ⊥) → answerOf a ≡ refusal v → left ≡ i .lent → Planned i (outcomeOf a left)
@@ -180,12 +227,29 @@ module _ (i : Input) (e : firstOf (checks i) .number ≡ 0) {new : Lent} {r : La
     log-fits = record { driving = good .columns .driving; inner = good .columns .inner; costs = good .columns .log-costs };
   }
 
+  -- how many rows there are: one at least, and few
+  pub rows-are : r .rows ≡ length (memo g)
+  rows-are = ap (λ (x : Laid). x .rows) (z .given room .0)
+
+  pub rows-some : 1 ≤ r .rows
+  rows-some = omega (arith, rows-are, memo-last g (good .sound .graph .some-table) (good .sound .connected) .0)
+
+  pub rows-few : r .rows ≤ few
+  rows-few = omega (arith, rows-are, memo-few g (good .sound .graph))
+
+  pub rows-fit : r .rows ≤ length (new .costs)
+  rows-fit = omega (arith, rows-are, room .rows, good .columns .costs, laid-lengths z .costs)
+
+  -- the scheme is one of the four
+  pub scheme-known : (s : Scheme) × (schemeOf (i .scheme) ≡ Good s)
+  scheme-known = (good .crew .named, good .crew .is-named)
+
   -- its end is a plan
   module _ {scheme : Scheme} (named : schemeOf (i .scheme) ≡ Good scheme) (a : Answer) (left : Memory)
       (d : SearchDone (i .query) scheme (i .workers) (i .turns) (columns (new .costs) (new .outers) (new .methods)) (columns (left .costs) (left .outers) (left .methods))
           (logOf (i .lent .logWorkers) (i .lent .logDriving) (i .lent .logInner) (i .lent .logCosts)) (logOf (left .logWorkers) (left .logDriving) (left .logInner) (left .logCosts)) (a .pairs) (a .counts))
       (same-sets : left .sets ≡ new .sets) (same-estimates : left .estimates ≡ new .estimates) (same-cells : left .skips ≡ new .skips)
-      (no-refusal : a .refusal ≡ 0) (no-place : a .place ≡ 0) (best : a .best ≡ getD (left .costs) (length (memo (i .query .graph)) - 1) 0) (rows : a .rows ≡ r .rows) (cells : a .cells ≡ r .cells) where
+      (no-refusal : a .refusal ≡ 0) (no-place : a .place ≡ 0) (best : a .best ≡ getD (left .costs) (r .rows - 1) 0) (rows : a .rows ≡ r .rows) (cells : a .cells ≡ r .cells) where
     -- a column that was cleared and then filled
     column : (lent laid-out after : List ℕ) → laid-out ≡ written lent 0 (replicate (length (memo g)) 0) → Spared (length (memo g)) laid-out after → Spared (length (memo g)) lent after
     unfolding zeros
@@ -211,8 +275,8 @@ module _ (i : Input) (e : firstOf (checks i) .number ≡ 0) {new : Lent} {r : La
         record {
           refusal = no-refusal;
           place = no-place;
-          best = rw best (rw (last .1) at (d .rows (length (memo g) - 1) (omega (arith, last .0)) .least));
-          rows = rows ∙ ap (λ (x : Laid). x .rows) (z .given room .0);
+          best = rw (best, rows-are) (rw (last .1) at (d .rows (length (memo g) - 1) (omega (arith, last .0)) .least));
+          rows = rows ∙ rows-are;
           cells = cells ∙ ap (λ (x : Laid). x .cells) (z .given room .0);
           pairs = d .count;
           counts = d .tallies;
