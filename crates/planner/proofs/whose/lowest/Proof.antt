@@ -5,13 +5,13 @@ use Rattle.planner.proofs.whose.lowest.Statement.{statement}
 use Rattle.planner.proofs.whose.lowest.Tie as tie
 
 abbrev Inv-loop : tie.InvT-loop
-Inv-loop count workers w₀ w = (w ≤ count) × NoneLeft workers w
+Inv-loop count workers w₀ w = NoneLeft workers w × (w ≤ count)
 
 abbrev μ-loop : tie.MeasureT-loop
 μ-loop count workers w₀ w = count - w
 
 loop-holds : tie.Need-loop-holds Inv-loop μ-loop
-loop-holds c = (omega arith, λ v l. absurd (omega arith))
+loop-holds c = (λ v l. absurd (omega arith), omega arith)
 
 mul-worker : tie.Need-mul-worker Inv-loop μ-loop
 mul-worker c = omega arith
@@ -29,17 +29,17 @@ loop-again : tie.Need-loop-again Inv-loop μ-loop
 loop-again c =
     let s = c .before .before .before .before .before in
     let l = c .before .before .before .before .loop in
-    (omega arith, none-more (s .args .t1) (l .w) (l .inv .1) (c .if1 .left))
+    (none-more (s .args .t1) (l .w) (l .inv .0) (c .if1 .left), omega arith)
 
 returns : tie.Need-returns Inv-loop μ-loop
 returns c =
     let l = c .before .loop in
-    record { inside = l .inv .0; lower = l .inv .1; left = λ i. absurd (omega arith) }
+    record { inside = l .inv .1; lower = l .inv .0; left = λ i. absurd (omega arith) }
 
 returns-2 : tie.Need-returns-2 Inv-loop μ-loop
 returns-2 c =
     let l = c .before .before .before .before .loop in
-    record { inside = l .inv .0; lower = l .inv .1; left = λ i. c .if1 .taken }
+    record { inside = l .inv .1; lower = l .inv .0; left = λ i. c .if1 .taken }
 
 pub lowest-spec : {M : Type 1} → statement M
 lowest-spec =
