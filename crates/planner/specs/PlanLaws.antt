@@ -247,7 +247,7 @@ module _ (i : Input) (e : firstOf (checks i) .number ≡ 0) {new : Lent} {r : La
   -- its end is a plan
   module _ {scheme : Scheme} (named : schemeOf (i .scheme) ≡ Good scheme) (a : Answer) (left : Memory)
       (d : SearchDone (i .query) scheme (i .workers) (i .turns) (columns (new .costs) (new .outers) (new .methods)) (columns (left .costs) (left .outers) (left .methods))
-          (logOf (i .lent .logWorkers) (i .lent .logDriving) (i .lent .logInner) (i .lent .logCosts)) (logOf (left .logWorkers) (left .logDriving) (left .logInner) (left .logCosts)) (a .pairs) (a .counts))
+      (logOf (i .lent .logWorkers) (i .lent .logDriving) (i .lent .logInner) (i .lent .logCosts)) (logOf (left .logWorkers) (left .logDriving) (left .logInner) (left .logCosts)) (a .pairs) (a .counts))
       (same-sets : left .sets ≡ new .sets) (same-estimates : left .estimates ≡ new .estimates) (same-cells : left .skips ≡ new .skips)
       (no-refusal : a .refusal ≡ 0) (no-place : a .place ≡ 0) (best : a .best ≡ getD (left .costs) (r .rows - 1) 0) (rows : a .rows ≡ r .rows) (cells : a .cells ≡ r .cells) where
     -- a column that was cleared and then filled

@@ -82,19 +82,69 @@ pub fn plan(
     ensures { λ r. ⌜ Planned (inputOf (queryOf (now (rows .entry)) (now (scans .entry)) (now (left .entry)) (now (right .entry)) (now (divisors .entry)) (now (fixed .entry)) (now («per_outer» .entry)) (now («per_inner» .entry)) (now («per_result» .entry))) workers scheme (now (turns .entry)) (memoryOf (now (sets .entry)) (now (estimates .entry)) (now (costs .entry)) (now (outers .entry)) (now (methods .entry)) (now (skips .entry)) (now («log_workers» .entry)) (now («log_driving» .entry)) (now («log_inner» .entry)) (now («log_costs» .entry)))) (outcomeOf r (memoryOf (now (sets .exit)) (now (estimates .exit)) (now (costs .exit)) (now (outers .exit)) (now (methods .exit)) (now (skips .exit)) (now («log_workers» .exit)) (now («log_driving» .exit)) (now («log_inner» .exit)) (now («log_costs» .exit)))) ⌝ }
 {
     let verdict = check(
-        rows, scans, left, right, divisors, fixed, per_outer, per_inner, per_result, workers, scheme, turns, sets.len(), estimates.len(),
-        costs.len(), outers.len(), methods.len(), log_workers.len(), log_driving.len(), log_inner.len(), log_costs.len(),
+        rows,
+        scans,
+        left,
+        right,
+        divisors,
+        fixed,
+        per_outer,
+        per_inner,
+        per_result,
+        workers,
+        scheme,
+        turns,
+        sets.len(),
+        estimates.len(),
+        costs.len(),
+        outers.len(),
+        methods.len(),
+        log_workers.len(),
+        log_driving.len(),
+        log_inner.len(),
+        log_costs.len(),
     );
     if verdict.number != 0 {
         return refused(verdict.number, verdict.place);
     }
-    let laid = lay_out(rows, left, right, divisors, sets, estimates, costs, outers, methods, skips);
+    let laid = lay_out(
+        rows,
+        left,
+        right,
+        divisors,
+        sets,
+        estimates,
+        costs,
+        outers,
+        methods,
+        skips,
+    );
     if laid.refusal != 0 {
         return refused(laid.refusal, 0);
     }
     let found = search(
-        rows, scans, left, right, divisors, fixed, per_outer, per_inner, per_result, known(scheme), workers as usize, turns, sets,
-        estimates, costs, outers, methods, skips, log_workers, log_driving, log_inner, log_costs,
+        rows,
+        scans,
+        left,
+        right,
+        divisors,
+        fixed,
+        per_outer,
+        per_inner,
+        per_result,
+        known(scheme),
+        workers as usize,
+        turns,
+        sets,
+        estimates,
+        costs,
+        outers,
+        methods,
+        skips,
+        log_workers,
+        log_driving,
+        log_inner,
+        log_costs,
     );
     let counts = found.counts;
     Answer {

@@ -6,7 +6,15 @@ ghost use Rattle.planner.specs.Runs.{logOf, notedIf, countIf};
 use turns::turn::Handed;
 
 // Notes a turn's pair as entry `at` where one was handed and the log has room for it; how many pairs are handed then.
-pub fn note(workers: &mut [u64], driving: &mut [u64], inner: &mut [u64], costs: &mut [u64], at: usize, worker: usize, pair: Handed) -> usize
+pub fn note(
+    workers: &mut [u64],
+    driving: &mut [u64],
+    inner: &mut [u64],
+    costs: &mut [u64],
+    at: usize,
+    worker: usize,
+    pair: Handed,
+) -> usize
     requires { ⌜ (length (now driving) ≡ length (now workers)) × (length (now inner) ≡ length (now workers)) × (length (now costs) ≡ length (now workers)) ⌝ }
     requires { ⌜ at < 2 ^ 63 ⌝ }
     ensures count { λ r. ⌜ r ≡ countIf at pair ⌝ }

@@ -13,8 +13,8 @@ use pairs::shares::Share;
 use rules::Scheme;
 use turns::open::open;
 use turns::scans::lay_scans;
-use turns::turn::turn;
 use turns::turn::Worker;
+use turns::turn::turn;
 
 // How many pairs the turns handed, and how many to each worker.
 pub struct Searched {
@@ -93,19 +93,57 @@ pub fn search(
     let mut pairs = 0usize;
     for k in 1..rows.len() {
         let s = k + 1;
-        let opened = open(rows, left, right, divisors, sets, skips, &firsts, &cells, s, scheme, count, workers);
+        let opened = open(
+            rows,
+            left,
+            right,
+            divisors,
+            sets,
+            skips,
+            &firsts,
+            &cells,
+            s,
+            scheme,
+            count,
+            workers,
+        );
         workers = opened;
         let mut low = lowest(workers, count);
         while low < count {
             let w = whose_turn(turns, at, low);
             let turned = turn(
-                rows, left, right, divisors, fixed, outer, inner, result, sets, estimates, costs, outers, methods, skips, &firsts, &cells,
-                s, workers, w,
+                rows,
+                left,
+                right,
+                divisors,
+                fixed,
+                outer,
+                inner,
+                result,
+                sets,
+                estimates,
+                costs,
+                outers,
+                methods,
+                skips,
+                &firsts,
+                &cells,
+                s,
+                workers,
+                w,
             );
             let moved = turned.workers;
             let pair = turned.pair;
             workers = moved;
-            pairs = note(log_workers, log_driving, log_inner, log_costs, pairs, w, pair);
+            pairs = note(
+                log_workers,
+                log_driving,
+                log_inner,
+                log_costs,
+                pairs,
+                w,
+                pair,
+            );
             at = entries_on(turns.len(), at);
             low = lowest(workers, count);
         }

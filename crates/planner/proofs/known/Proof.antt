@@ -1,9 +1,7 @@
+use mathlib.Core.Path.{sym, _∙_}
 use borrow.Author.Needs.{needs}
 use Rattle.planner.proofs.known.Statement.{statement}
 use Rattle.planner.proofs.known.Tie as tie
-use Rattle.planner.proofs.known.Reads as reads
-use Rattle.planner.proofs.known.Lts as lts
-use Rattle.rules.proofs.Scheme.from_number.Reads as from-number-reads
 
 -- src/lib.rt:51:11
 from-number-requires : tie.Need-from-number-requires
@@ -19,7 +17,7 @@ enum-told c = search needs
 
 -- src/lib.rt:47:1
 returns : tie.Need-returns
-returns c = ?
+returns c = sym (c .before .before .before .from-number .ensures) ∙ c .before .scheme .given .1
 
 -- src/lib.rt:47:1
 returns-2 : tie.Need-returns-2

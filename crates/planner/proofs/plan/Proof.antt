@@ -1,125 +1,168 @@
-use borrow.Author.Needs.{needs}
+use mathlib.Core.Path.{_≡_, refl, sym, ap, _∙_}
+use native.Mathlib.Omega.{arith}
+use Rattle.rules.specs.Refusals.{Input}
+use Rattle.query.specs.Lists.{queryOf}
+use Rattle.memo.specs.Layout.{Lent, lentOf}
+use Rattle.rules.specs.declared.Verdict.{Verdict}
+use Rattle.planner.specs.Plans.{memoryOf, inputOf}
+use Rattle.planner.specs.PlanLaws.{checks-are, refused-answer, lay-ready, laid-lengths, planned-checks, planned-rooms, search-ready, rows-some, rows-few, rows-fit, scheme-known, planned-given}
+use Rattle.planner.specs.SearchLaws.{logged-lengths}
 use Rattle.planner.proofs.plan.Statement.{statement}
 use Rattle.planner.proofs.plan.Tie as tie
-use Rattle.planner.proofs.plan.Reads as reads
-use Rattle.planner.proofs.plan.Lts as lts
-use Rattle.memo.proofs.layout.lay_out.Reads as lay-out-reads
-use Rattle.planner.proofs.known.Reads as known-reads
-use Rattle.planner.proofs.refused.Reads as refused-reads
-use Rattle.planner.proofs.search.search.Reads as search-reads
-use Rattle.query.proofs.refusals.check.Reads as check-reads
 
--- src/lib.rt:84:9
+-- what it was given
+abbrev input : tie.Start → Input
+input s =
+    inputOf (queryOf (s .args .rows .now) (s .args .scans .now) (s .args .left .now) (s .args .right .now) (s .args .divisors .now) (s .args .fixed .now) (s .args .per-outer .now) (s .args .per-inner .now) (s .args .per-result .now)) (s .args .workers) (s .args .scheme) (s .args .turns .now)
+    (memoryOf (s .args .sets .now) (s .args .estimates .now) (s .args .costs .now) (s .args .outers .now) (s .args .methods .now) (s .args .skips .now) (s .args .log-workers .now) (s .args .log-driving .now) (s .args .log-inner .now) (s .args .log-costs .now))
+
 check-requires : tie.Need-check-requires
-check-requires c κs = search needs
+check-requires c κs = tt
 
--- src/lib.rt:89:9
 refused-requires : tie.Need-refused-requires
-refused-requires c κs = search needs
+refused-requires c κs = tt
 
--- src/lib.rt:89:9
 returns : tie.Need-returns
-returns c = ?
+returns c =
+    let i = input (c .before .before .before .before .before .before .before .before .before .before .before .before .before .before .before .before .before .before .before .before .before .before .before .before) in
+    let v = c .before .before .before .check .ensures ∙ checks-are i in
+    planned-checks i v (c .before .if1 .taken) (refused-answer _ _ (c .refused .ensures)) refl
 
--- src/lib.rt:91:9
 lay-out-requires : tie.Need-lay-out-requires
-lay-out-requires c κs = ?
+lay-out-requires c κs =
+    let i = input (c .before .before .before .before .before .before .before .before .before .before .before .before .before .before .before .before .before .before .before .before .before .before .before .before .before .before .before .before .before) in
+    let v = c .before .before .before .before .before .before .before .before .check .ensures ∙ checks-are i in
+    let e = sym (ap (λ (x : Verdict). x .number) v) ∙ c .before .before .before .before .before .before .if1 .left in
+    lay-ready i e
 
--- src/lib.rt:93:9
 refused-requires-2 : tie.Need-refused-requires-2
-refused-requires-2 c κs = search needs
+refused-requires-2 c κs = tt
 
--- src/lib.rt:93:9
 same-length : tie.Need-same-length
-same-length c = search needs
+same-length c = laid-lengths (c .before .before .before .before .before .before .before .before .before .before .before .before .before .before .before .lay-out .ensures) .sets
 
--- src/lib.rt:93:9
 same-length-2 : tie.Need-same-length-2
-same-length-2 c = search needs
+same-length-2 c = laid-lengths (c .before .before .before .before .before .before .before .before .before .before .before .before .before .before .before .lay-out .ensures) .estimates
 
--- src/lib.rt:93:9
 same-length-3 : tie.Need-same-length-3
-same-length-3 c = search needs
+same-length-3 c = laid-lengths (c .before .before .before .before .before .before .before .before .before .before .before .before .before .before .before .lay-out .ensures) .costs
 
--- src/lib.rt:93:9
 same-length-4 : tie.Need-same-length-4
-same-length-4 c = search needs
+same-length-4 c = laid-lengths (c .before .before .before .before .before .before .before .before .before .before .before .before .before .before .before .lay-out .ensures) .outers
 
--- src/lib.rt:93:9
 same-length-5 : tie.Need-same-length-5
-same-length-5 c = search needs
+same-length-5 c = laid-lengths (c .before .before .before .before .before .before .before .before .before .before .before .before .before .before .before .lay-out .ensures) .methods
 
--- src/lib.rt:93:9
 same-length-6 : tie.Need-same-length-6
-same-length-6 c = search needs
+same-length-6 c = laid-lengths (c .before .before .before .before .before .before .before .before .before .before .before .before .before .before .before .lay-out .ensures) .skips
 
--- src/lib.rt:93:9
 returns-2 : tie.Need-returns-2
-returns-2 c = ?
+returns-2 c =
+    let i = input (c .before .before .before .before .before .before .before .before .before .before .before .before .before .before .before .before .before .before .before .before .before .before .before .before .before .before .before .before .before .before .before .before .before .before .before .before .before .before .before .before .before .before .before .before .before) in
+    let v = c .before .before .before .before .before .before .before .before .before .before .before .before .before .before .before .before .before .before .before .before .before .before .before .before .check .ensures ∙ checks-are i in
+    let e = sym (ap (λ (x : Verdict). x .number) v) ∙ c .before .before .before .before .before .before .before .before .before .before .before .before .before .before .before .before .before .before .before .before .before .before .if1 .left in
+    let z = c .before .before .before .before .before .before .before .before .before .before .before .before .before .before .before .lay-out .ensures in
+    planned-rooms i e z (c .before .if2 .taken) (refused-answer _ 0 (c .refused2 .ensures))
+    (λ q t. memoryOf (q t .sets) (q t .estimates) (q t .costs) (q t .outers) (q t .methods) (q t .skips) (i .lent .logWorkers) (i .lent .logDriving) (i .lent .logInner) (i .lent .logCosts))
 
--- src/lib.rt:96:86
 known-requires : tie.Need-known-requires
-known-requires c κs = ?
+known-requires c κs =
+    let i = input (c .before .before .before .before .before .before .before .before .before .before .before .before .before .before .before .before .before .before .before .before .before .before .before .before .before .before .before .before .before .before .before .before .before .before .before .before .before .before .before .before .before .before .before .before) in
+    let v = c .before .before .before .before .before .before .before .before .before .before .before .before .before .before .before .before .before .before .before .before .before .before .before .check .ensures ∙ checks-are i in
+    let e = sym (ap (λ (x : Verdict). x .number) v) ∙ c .before .before .before .before .before .before .before .before .before .before .before .before .before .before .before .before .before .before .before .before .before .if1 .left in
+    let z = c .before .before .before .before .before .before .before .before .before .before .before .before .before .before .lay-out .ensures in
+    scheme-known i e z (c .if2 .left)
 
--- src/lib.rt:95:9
 search-requires : tie.Need-search-requires
-search-requires c κs = ?
+search-requires c κs =
+    let i = input (c .before .before .before .before .before .before .before .before .before .before .before .before .before .before .before .before .before .before .before .before .before .before .before .before .before .before .before .before .before .before .before .before .before .before .before .before .before .before .before .before .before .before .before .before .before .before .before .before .before .before .before .before .before .before .before) in
+    let v = c .before .before .before .before .before .before .before .before .before .before .before .before .before .before .before .before .before .before .before .before .before .before .before .before .before .before .before .before .before .before .before .before .before .before .check .ensures ∙ checks-are i in
+    let e = sym (ap (λ (x : Verdict). x .number) v) ∙ c .before .before .before .before .before .before .before .before .before .before .before .before .before .before .before .before .before .before .before .before .before .before .before .before .before .before .before .before .before .before .before .before .if1 .left in
+    let z = c .before .before .before .before .before .before .before .before .before .before .before .before .before .before .before .before .before .before .before .before .before .before .before .before .before .lay-out .ensures in
+    search-ready i e z (c .before .before .before .before .before .before .before .before .before .before .before .if2 .left)
 
--- src/lib.rt:103:21
 sub-t27 : tie.Need-sub-t27
-sub-t27 c = ?
+sub-t27 c =
+    let i = input (c .before .before .before .before .before .before .before .before .before .before .before .before .before .before .before .before .before .before .before .before .before .before .before .before .before .before .before .before .before .before .before .before .before .before .before .before .before .before .before .before .before .before .before .before .before .before .before .before .before .before .before .before .before .before .before .before .before .before .before .before .before .before .before .before .before .before .before .before .before .before .before) in
+    let v = c .before .before .before .before .before .before .before .before .before .before .before .before .before .before .before .before .before .before .before .before .before .before .before .before .before .before .before .before .before .before .before .before .before .before .before .before .before .before .before .before .before .before .before .before .before .before .before .before .before .before .check .ensures ∙ checks-are i in
+    let e = sym (ap (λ (x : Verdict). x .number) v) ∙ c .before .before .before .before .before .before .before .before .before .before .before .before .before .before .before .before .before .before .before .before .before .before .before .before .before .before .before .before .before .before .before .before .before .before .before .before .before .before .before .before .before .before .before .before .before .before .before .before .if1 .left in
+    let z = c .before .before .before .before .before .before .before .before .before .before .before .before .before .before .before .before .before .before .before .before .before .before .before .before .before .before .before .before .before .before .before .before .before .before .before .before .before .before .before .before .before .lay-out .ensures in
+    rows-some i e z (c .before .before .before .before .before .before .before .before .before .before .before .before .before .before .before .before .before .before .before .before .before .before .before .before .before .before .before .if2 .left)
 
--- src/lib.rt:103:15
 mul-t29 : tie.Need-mul-t29
-mul-t29 c = ?
+mul-t29 c =
+    let i = input (c .before .before .before .before .before .before .before .before .before .before .before .before .before .before .before .before .before .before .before .before .before .before .before .before .before .before .before .before .before .before .before .before .before .before .before .before .before .before .before .before .before .before .before .before .before .before .before .before .before .before .before .before .before .before .before .before .before .before .before .before .before .before .before .before .before .before .before .before .before .before .before) in
+    let v = c .before .before .before .before .before .before .before .before .before .before .before .before .before .before .before .before .before .before .before .before .before .before .before .before .before .before .before .before .before .before .before .before .before .before .before .before .before .before .before .before .before .before .before .before .before .before .before .before .before .before .check .ensures ∙ checks-are i in
+    let e = sym (ap (λ (x : Verdict). x .number) v) ∙ c .before .before .before .before .before .before .before .before .before .before .before .before .before .before .before .before .before .before .before .before .before .before .before .before .before .before .before .before .before .before .before .before .before .before .before .before .before .before .before .before .before .before .before .before .before .before .before .before .if1 .left in
+    let z = c .before .before .before .before .before .before .before .before .before .before .before .before .before .before .before .before .before .before .before .before .before .before .before .before .before .before .before .before .before .before .before .before .before .before .before .before .before .before .before .before .before .lay-out .ensures in
+    omega (arith, rows-few i e z (c .before .before .before .before .before .before .before .before .before .before .before .before .before .before .before .before .before .before .before .before .before .before .before .before .before .before .before .if2 .left))
 
--- src/lib.rt:103:15
 slice-read-t71 : tie.Need-slice-read-t71
-slice-read-t71 c = ?
+slice-read-t71 c =
+    let i = input (c .before .before .before .before .before .before .before .before .before .before .before .before .before .before .before .before .before .before .before .before .before .before .before .before .before .before .before .before .before .before .before .before .before .before .before .before .before .before .before .before .before .before .before .before .before .before .before .before .before .before .before .before .before .before .before .before .before .before .before .before .before .before .before .before .before .before .before .before .before .before .before .before) in
+    let v = c .before .before .before .before .before .before .before .before .before .before .before .before .before .before .before .before .before .before .before .before .before .before .before .before .before .before .before .before .before .before .before .before .before .before .before .before .before .before .before .before .before .before .before .before .before .before .before .before .before .before .before .check .ensures ∙ checks-are i in
+    let e = sym (ap (λ (x : Verdict). x .number) v) ∙ c .before .before .before .before .before .before .before .before .before .before .before .before .before .before .before .before .before .before .before .before .before .before .before .before .before .before .before .before .before .before .before .before .before .before .before .before .before .before .before .before .before .before .before .before .before .before .before .before .before .if1 .left in
+    let z = c .before .before .before .before .before .before .before .before .before .before .before .before .before .before .before .before .before .before .before .before .before .before .before .before .before .before .before .before .before .before .before .before .before .before .before .before .before .before .before .before .before .before .lay-out .ensures in
+    let d = c .before .before .before .before .before .before .before .before .before .before .before .before .before .before .before .before .search .ensures in
+    omega (arith, rows-some i e z (c .before .before .before .before .before .before .before .before .before .before .before .before .before .before .before .before .before .before .before .before .before .before .before .before .before .before .before .before .if2 .left), rows-fit i e z (c .before .before .before .before .before .before .before .before .before .before .before .before .before .before .before .before .before .before .before .before .before .before .before .before .before .before .before .before .if2 .left), d .kept .costs .length-kept)
 
--- src/lib.rt:58:1
 same-length-7 : tie.Need-same-length-7
-same-length-7 c = ?
+same-length-7 c = laid-lengths (c .before .before .before .before .before .before .before .before .before .before .before .before .before .before .before .before .before .before .before .before .before .before .before .before .before .before .before .before .before .before .before .before .before .before .before .before .before .before .before .before .before .before .lay-out .ensures) .sets
 
--- src/lib.rt:58:1
 same-length-8 : tie.Need-same-length-8
-same-length-8 c = ?
+same-length-8 c = laid-lengths (c .before .before .before .before .before .before .before .before .before .before .before .before .before .before .before .before .before .before .before .before .before .before .before .before .before .before .before .before .before .before .before .before .before .before .before .before .before .before .before .before .before .before .lay-out .ensures) .estimates
 
--- src/lib.rt:58:1
 same-length-9 : tie.Need-same-length-9
-same-length-9 c = ?
+same-length-9 c = c .before .before .before .before .before .before .before .before .before .before .before .before .before .before .before .before .search .ensures .kept .costs .length-kept ∙ laid-lengths (c .before .before .before .before .before .before .before .before .before .before .before .before .before .before .before .before .before .before .before .before .before .before .before .before .before .before .before .before .before .before .before .before .before .before .before .before .before .before .before .before .before .before .lay-out .ensures) .costs
 
--- src/lib.rt:58:1
 same-length-10 : tie.Need-same-length-10
-same-length-10 c = ?
+same-length-10 c = c .before .before .before .before .before .before .before .before .before .before .before .before .before .before .before .before .search .ensures .kept .outers .length-kept ∙ laid-lengths (c .before .before .before .before .before .before .before .before .before .before .before .before .before .before .before .before .before .before .before .before .before .before .before .before .before .before .before .before .before .before .before .before .before .before .before .before .before .before .before .before .before .before .lay-out .ensures) .outers
 
--- src/lib.rt:58:1
 same-length-11 : tie.Need-same-length-11
-same-length-11 c = ?
+same-length-11 c = c .before .before .before .before .before .before .before .before .before .before .before .before .before .before .before .before .search .ensures .kept .methods .length-kept ∙ laid-lengths (c .before .before .before .before .before .before .before .before .before .before .before .before .before .before .before .before .before .before .before .before .before .before .before .before .before .before .before .before .before .before .before .before .before .before .before .before .before .before .before .before .before .before .lay-out .ensures) .methods
 
--- src/lib.rt:58:1
 same-length-12 : tie.Need-same-length-12
-same-length-12 c = ?
+same-length-12 c = laid-lengths (c .before .before .before .before .before .before .before .before .before .before .before .before .before .before .before .before .before .before .before .before .before .before .before .before .before .before .before .before .before .before .before .before .before .before .before .before .before .before .before .before .before .before .lay-out .ensures) .skips
 
--- src/lib.rt:58:1
 same-length-13 : tie.Need-same-length-13
-same-length-13 c = search needs
+same-length-13 c =
+    let i = input (c .before .before .before .before .before .before .before .before .before .before .before .before .before .before .before .before .before .before .before .before .before .before .before .before .before .before .before .before .before .before .before .before .before .before .before .before .before .before .before .before .before .before .before .before .before .before .before .before .before .before .before .before .before .before .before .before .before .before .before .before .before .before .before .before .before .before .before .before .before .before .before .before) in
+    let v = c .before .before .before .before .before .before .before .before .before .before .before .before .before .before .before .before .before .before .before .before .before .before .before .before .before .before .before .before .before .before .before .before .before .before .before .before .before .before .before .before .before .before .before .before .before .before .before .before .before .before .before .check .ensures ∙ checks-are i in
+    let e = sym (ap (λ (x : Verdict). x .number) v) ∙ c .before .before .before .before .before .before .before .before .before .before .before .before .before .before .before .before .before .before .before .before .before .before .before .before .before .before .before .before .before .before .before .before .before .before .before .before .before .before .before .before .before .before .before .before .before .before .before .before .before .if1 .left in
+    let z = c .before .before .before .before .before .before .before .before .before .before .before .before .before .before .before .before .before .before .before .before .before .before .before .before .before .before .before .before .before .before .before .before .before .before .before .before .before .before .before .before .before .before .lay-out .ensures in
+    logged-lengths (c .before .before .before .before .before .before .before .before .before .before .before .before .before .before .before .before .search .ensures .logged) (search-ready i e z (c .before .before .before .before .before .before .before .before .before .before .before .before .before .before .before .before .before .before .before .before .before .before .before .before .before .before .before .before .if2 .left) .log-fits) .0
 
--- src/lib.rt:58:1
 same-length-14 : tie.Need-same-length-14
-same-length-14 c = search needs
+same-length-14 c =
+    let i = input (c .before .before .before .before .before .before .before .before .before .before .before .before .before .before .before .before .before .before .before .before .before .before .before .before .before .before .before .before .before .before .before .before .before .before .before .before .before .before .before .before .before .before .before .before .before .before .before .before .before .before .before .before .before .before .before .before .before .before .before .before .before .before .before .before .before .before .before .before .before .before .before .before) in
+    let v = c .before .before .before .before .before .before .before .before .before .before .before .before .before .before .before .before .before .before .before .before .before .before .before .before .before .before .before .before .before .before .before .before .before .before .before .before .before .before .before .before .before .before .before .before .before .before .before .before .before .before .before .check .ensures ∙ checks-are i in
+    let e = sym (ap (λ (x : Verdict). x .number) v) ∙ c .before .before .before .before .before .before .before .before .before .before .before .before .before .before .before .before .before .before .before .before .before .before .before .before .before .before .before .before .before .before .before .before .before .before .before .before .before .before .before .before .before .before .before .before .before .before .before .before .before .if1 .left in
+    let z = c .before .before .before .before .before .before .before .before .before .before .before .before .before .before .before .before .before .before .before .before .before .before .before .before .before .before .before .before .before .before .before .before .before .before .before .before .before .before .before .before .before .before .lay-out .ensures in
+    logged-lengths (c .before .before .before .before .before .before .before .before .before .before .before .before .before .before .before .before .search .ensures .logged) (search-ready i e z (c .before .before .before .before .before .before .before .before .before .before .before .before .before .before .before .before .before .before .before .before .before .before .before .before .before .before .before .before .if2 .left) .log-fits) .1
 
--- src/lib.rt:58:1
 same-length-15 : tie.Need-same-length-15
-same-length-15 c = search needs
+same-length-15 c =
+    let i = input (c .before .before .before .before .before .before .before .before .before .before .before .before .before .before .before .before .before .before .before .before .before .before .before .before .before .before .before .before .before .before .before .before .before .before .before .before .before .before .before .before .before .before .before .before .before .before .before .before .before .before .before .before .before .before .before .before .before .before .before .before .before .before .before .before .before .before .before .before .before .before .before .before) in
+    let v = c .before .before .before .before .before .before .before .before .before .before .before .before .before .before .before .before .before .before .before .before .before .before .before .before .before .before .before .before .before .before .before .before .before .before .before .before .before .before .before .before .before .before .before .before .before .before .before .before .before .before .before .check .ensures ∙ checks-are i in
+    let e = sym (ap (λ (x : Verdict). x .number) v) ∙ c .before .before .before .before .before .before .before .before .before .before .before .before .before .before .before .before .before .before .before .before .before .before .before .before .before .before .before .before .before .before .before .before .before .before .before .before .before .before .before .before .before .before .before .before .before .before .before .before .before .if1 .left in
+    let z = c .before .before .before .before .before .before .before .before .before .before .before .before .before .before .before .before .before .before .before .before .before .before .before .before .before .before .before .before .before .before .before .before .before .before .before .before .before .before .before .before .before .before .lay-out .ensures in
+    logged-lengths (c .before .before .before .before .before .before .before .before .before .before .before .before .before .before .before .before .search .ensures .logged) (search-ready i e z (c .before .before .before .before .before .before .before .before .before .before .before .before .before .before .before .before .before .before .before .before .before .before .before .before .before .before .before .before .if2 .left) .log-fits) .2
 
--- src/lib.rt:58:1
 same-length-16 : tie.Need-same-length-16
-same-length-16 c = search needs
+same-length-16 c =
+    let i = input (c .before .before .before .before .before .before .before .before .before .before .before .before .before .before .before .before .before .before .before .before .before .before .before .before .before .before .before .before .before .before .before .before .before .before .before .before .before .before .before .before .before .before .before .before .before .before .before .before .before .before .before .before .before .before .before .before .before .before .before .before .before .before .before .before .before .before .before .before .before .before .before .before) in
+    let v = c .before .before .before .before .before .before .before .before .before .before .before .before .before .before .before .before .before .before .before .before .before .before .before .before .before .before .before .before .before .before .before .before .before .before .before .before .before .before .before .before .before .before .before .before .before .before .before .before .before .before .before .check .ensures ∙ checks-are i in
+    let e = sym (ap (λ (x : Verdict). x .number) v) ∙ c .before .before .before .before .before .before .before .before .before .before .before .before .before .before .before .before .before .before .before .before .before .before .before .before .before .before .before .before .before .before .before .before .before .before .before .before .before .before .before .before .before .before .before .before .before .before .before .before .before .if1 .left in
+    let z = c .before .before .before .before .before .before .before .before .before .before .before .before .before .before .before .before .before .before .before .before .before .before .before .before .before .before .before .before .before .before .before .before .before .before .before .before .before .before .before .before .before .before .lay-out .ensures in
+    logged-lengths (c .before .before .before .before .before .before .before .before .before .before .before .before .before .before .before .before .search .ensures .logged) (search-ready i e z (c .before .before .before .before .before .before .before .before .before .before .before .before .before .before .before .before .before .before .before .before .before .before .before .before .before .before .before .before .if2 .left) .log-fits) .3
 
--- src/lib.rt:58:1
 returns-3 : tie.Need-returns-3
-returns-3 c = ?
+returns-3 c =
+    let i = input (c .before .before .before .before .before .before .before .before .before .before .before .before .before .before .before .before .before .before .before .before .before .before .before .before .before .before .before .before .before .before .before .before .before .before .before .before .before .before .before .before .before .before .before .before .before .before .before .before .before .before .before .before .before .before .before .before .before .before .before .before .before .before .before .before .before .before .before .before .before .before .before .before) in
+    let v = c .before .before .before .before .before .before .before .before .before .before .before .before .before .before .before .before .before .before .before .before .before .before .before .before .before .before .before .before .before .before .before .before .before .before .before .before .before .before .before .before .before .before .before .before .before .before .before .before .before .before .before .check .ensures ∙ checks-are i in
+    let e = sym (ap (λ (x : Verdict). x .number) v) ∙ c .before .before .before .before .before .before .before .before .before .before .before .before .before .before .before .before .before .before .before .before .before .before .before .before .before .before .before .before .before .before .before .before .before .before .before .before .before .before .before .before .before .before .before .before .before .before .before .before .before .if1 .left in
+    let z = c .before .before .before .before .before .before .before .before .before .before .before .before .before .before .before .before .before .before .before .before .before .before .before .before .before .before .before .before .before .before .before .before .before .before .before .before .before .before .before .before .before .before .lay-out .ensures in
+    planned-given i e z (c .before .before .before .before .before .before .before .before .before .before .before .before .before .before .before .before .before .before .before .before .before .before .before .before .before .before .before .before .if2 .left) (c .before .before .before .before .before .before .before .before .before .before .before .before .before .before .before .before .before .before .before .before .before .before .before .before .before .before .before .known .ensures) _ _ (c .before .before .before .before .before .before .before .before .before .before .before .before .before .before .before .before .search .ensures) refl refl refl refl refl refl refl refl
 
 pub plan-spec : {M : Type 1} → statement M
 plan-spec =

@@ -259,7 +259,6 @@ full-only (suc n) S l e =
     let c : S / 2 ≡ 2 ^ n - 1 = full-only n (S / 2) (omega arith) (omega arith) in
     omega arith
 
-
 -- a number is even or odd
 abbrev pub Parity : ℕ → Type 0
 Parity n = (n % 2 ≡ 0) ⊎ (n % 2 ≡ 1)
