@@ -8,8 +8,9 @@ use native.Mathlib.Decide.{decLt}
 use native.Mathlib.Omega.{arith}
 use lib.Dec.{ltb}
 use lib.Pow.{pow-mono}
-use lib.ListN.{length, getD, length-set, replicate}
+use lib.ListN.{length, getD, length-set, replicate, getD-replicate}
 use borrow.Author.Tests.{ltb-true, lt-ltb, le-ltb}
+use Rattle.rules.specs.Limits.{maxWorkers}
 use Rattle.rules.specs.declared.Scheme.{Scheme}
 use Rattle.rules.specs.Query.{Graph, Query, tableCount}
 use Rattle.rules.specs.Rows.{memo}
@@ -31,7 +32,7 @@ use Rattle.pairs.specs.PlaceLaws.{met-few}
 use Rattle.results.specs.Prices.{kept}
 use Rattle.turns.specs.declared.turn.Worker.{Worker}
 use Rattle.turns.specs.declared.turn.Handed as code
-use Rattle.turns.specs.Standing.{Columns, columns, choiceIn, Reach, Board, Ready, workerAt, Crew, Opened, TurnTaken, Standing}
+use Rattle.turns.specs.Standing.{Columns, columns, choiceIn, Reach, Board, Ready, nobody, workerAt, Crew, Opened, TurnTaken, Final}
 use Rattle.turns.specs.StandingLaws.{standing-open, standing-turn, standing-closed}
 use Rattle.turns.specs.QueueLaws.{waits-inside, stillMet, turn-progress, turn-progress-none}
 use Rattle.turns.specs.StepLaws.{set-at, driving-inside, inner-inside}
@@ -120,6 +121,10 @@ module _ {g : Graph} {fixed outer inner result sets estimates cells starts cellS
 
         none : workerAt workers w .place .left ≡ false → Reach g new
         none e = rw (t .step .none e .1) (b .reach)
+
+-- before size 2 nothing was handed
+pub first-between : {q : Query} {m : ℕ} {c : Columns} {v : Worker} → m ≤ maxWorkers → v ≡ nobody → Reach (q .graph) c → Final q 2 c → Between q m 2 (replicate 8 v) c
+first-between {v = v} few-workers e r f = record { reach = r; final = f; handed = λ w l. omega (arith, ap (λ (x : Worker). x .handed) (getD-replicate 8 w v nobody (omega arith) ∙ e)) }
 
 module _ {q : Query} {sets estimates cells starts cellStarts : List ℕ} (p : Prepared q sets estimates cells starts cellStarts) {m s : ℕ} {turns : List ℕ} (crew : Listed m turns)
     (two : 2 ≤ s) (known : s ≤ tableCount (q .graph)) where

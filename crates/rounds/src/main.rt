@@ -4,7 +4,6 @@ use memo::columns::lay_starts;
 use memo::layout::lay_out;
 use pairs::places::nowhere;
 use pairs::shares::Share;
-use pairs::shares::share_of;
 use query::refusals::check;
 use rules::NewScheme;
 use rules::Scheme;
@@ -22,7 +21,7 @@ ghost use lib.ListN.{length};
 ghost use Rattle.rules.specs.Limits.{maxWorkers};
 ghost use Rattle.rules.specs.Query.{graphOf};
 ghost use Rattle.query.specs.Lists.{queryOf};
-ghost use Rattle.turns.specs.Standing.{columns, Reach, workerAt, Final};
+ghost use Rattle.turns.specs.Standing.{columns, Reach, nobody, workerAt, Final};
 ghost use Rattle.turns.specs.StartLaws.{Prepared};
 ghost use Rattle.rounds.specs.Rounds.{Printable, Shown, LowestLeft, whose, entriesOn, Listed, Between, Within, Started};
 
@@ -122,6 +121,19 @@ fn print_places(sets: &[u64], workers: [Worker; 8], count: usize)
         let worker = workers[w];
         print_place(sets, worker);
     }
+}
+
+// A size as it is opened; under scheme 1 with the workers' shares, which are cuts of its candidates.
+fn print_size(sets: &[u64], s: usize, scheme: Scheme, workers: [Worker; 8], count: usize)
+    requires { ⌜ (count ≤ maxWorkers) × ((w : ℕ) → w < count → Shown (now sets) (workerAt workers w)) ⌝ }
+{
+    put(b"size ");
+    io::print_decimal(STDOUT, s as u64);
+    put(b"\n");
+    if scheme.number() == 1 {
+        print_shares(workers, count);
+    }
+    print_places(sets, workers, count);
 }
 
 // "The lowest-numbered worker with a pair left", or `count`.
@@ -229,6 +241,25 @@ fn take_turns(
     }
 }
 
+// No worker yet.
+fn nobody() -> Worker
+    ensures { λ r. ⌜ r ≡ nobody ⌝ }
+{
+    Worker {
+        share: Share {
+            scheme: Scheme::CutCandidates,
+            workers: 0,
+            worker: 0,
+            total: 0,
+            from: 0,
+            to: 0,
+        },
+        place: nowhere(0),
+        last: 0,
+        handed: 0,
+    }
+}
+
 // Opens each size, prints where its workers wait, and takes its turns.
 fn run_sizes(
     rows: &[u64],
@@ -256,21 +287,13 @@ fn run_sizes(
     requires { ⌜ Listed count (now turns) ⌝ }
     requires { ⌜ Reach (graphOf (now rows) (now left) (now right) (now divisors)) (columns (now costs) (now outers) (now methods)) × Final (queryOf (now rows) (now scans) (now left) (now right) (now divisors) (now fixed) (now outer) (now inner) (now result)) 2 (columns (now costs) (now outers) (now methods)) ⌝ }
 {
-    let nobody = Worker {
-        share: share_of(Scheme::CutCandidates, 1, 0, 0),
-        place: nowhere(0),
-        last: 0,
-        handed: 0,
-    };
+    let nobody = nobody();
     let mut state = Closed {
         workers: [nobody; 8],
         used: 0,
     };
     let mut s = 2;
     while s <= rows.len() {
-        put(b"size ");
-        io::print_decimal(STDOUT, s as u64);
-        put(b"\n");
         let before = state.workers;
         let workers = open(
             rows,
@@ -286,10 +309,7 @@ fn run_sizes(
             count,
             before,
         );
-        if scheme.number() == 1 {
-            print_shares(workers, count);
-        }
-        print_places(sets, workers, count);
+        print_size(sets, s, scheme, workers, count);
         let opened = Closed {
             workers: workers,
             used: state.used,
