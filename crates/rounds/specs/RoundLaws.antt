@@ -3,7 +3,7 @@ use mathlib.Core.Path.{_≡_, refl, sym, ap, _∙_}
 use mathlib.Core.Logic.{_⊎_, inl, inr, ⊎-elim}
 use mathlib.Core.Bool.{Bool, true, false, cond}
 use mathlib.Core.List.{List, [], _∷_}
-use Prim.Native.Nat.{ℕ, _+_, _-_, _*_, _≤_, _<_}
+use Prim.Native.Nat.{ℕ, _+_, _-_, _≤_, _<_}
 use native.Mathlib.Decide.{decLt}
 use native.Mathlib.Omega.{arith}
 use lib.Dec.{ltb}
@@ -27,7 +27,7 @@ use Rattle.memo.specs.declared.layout.Laid.{Laid}
 use Rattle.memo.specs.Vectors.{written}
 use Rattle.memo.specs.Layout.{starts, cellStarts, Lent, OneLength, Room, laid, LaidOut}
 use Rattle.memo.specs.LayoutLaws.{still-long, one-length}
-use Rattle.pairs.specs.Shares.{few, shareOf}
+use Rattle.pairs.specs.Shares.{shareOf}
 use Rattle.pairs.specs.PlaceLaws.{met-few}
 use Rattle.results.specs.Prices.{kept}
 use Rattle.turns.specs.declared.turn.Worker.{Worker}

@@ -493,12 +493,12 @@ fn run(scheme: u64, workers: u64, turns: &[u64]) {
 // A scheme's four crews; C5's, two workers under scheme 3, has the list of turns 1,1.
 fn crews(scheme: u64) {
     let list = [1u64; 2];
-    let mut listed = 0;
-    if scheme == 3 {
-        listed = 2;
-    }
     run(scheme, 1, &list[0..0]);
-    run(scheme, 2, &list[0..listed]);
+    if scheme == 3 {
+        run(scheme, 2, &list);
+    } else {
+        run(scheme, 2, &list[0..0]);
+    }
     run(scheme, 3, &list[0..0]);
     run(scheme, 8, &list[0..0]);
 }
