@@ -230,7 +230,7 @@ module _ (q : Query) (workers scheme : ℕ) (turns log : List ℕ) (old : Lent) 
   -- and size 2 may be opened
   pub started-of : (oldStarts oldCellStarts : List ℕ) {costs starts₁ cellStarts₁ : List ℕ} → tableCount (q .graph) + 2 ≤ length oldStarts → tableCount (q .graph) + 2 ≤ length oldCellStarts
       → starts₁ ≡ written oldStarts 0 (starts (q .graph)) → cellStarts₁ ≡ written oldCellStarts 0 (cellStarts (q .graph)) → costs ≡ written (new .costs) 0 (q .scans)
-      → Started q workers scheme turns (new .sets) (new .estimates) (new .skips) starts₁ cellStarts₁ (columns costs (new .outers) (new .methods))
+      → Started q workers turns (new .sets) (new .estimates) (new .skips) starts₁ cellStarts₁ (columns costs (new .outers) (new .methods))
   started-of oldStarts oldCellStarts {costs} a b e f h =
       let z : Starting q (old .costs) (old .outers) (old .methods) (columns costs (new .outers) (new .methods)) = record {
         costs-room = omega (arith, room .rows, one .costs);
@@ -248,7 +248,6 @@ module _ (q : Query) (workers scheme : ℕ) (turns log : List ℕ) (old : Lent) 
           ground = ground-of (q .graph) (old .sets) (old .skips) oldStarts oldCellStarts (room .rows) (room .cells) a b (ap (λ (x : Lent). x .sets) is) (ap (λ (x : Lent). x .skips) is) e f;
           estimated = estimated-of (q .graph) (old .estimates) (omega (arith, room .rows, one .estimates)) (ap (λ (x : Lent). x .estimates) is);
         };
-        crew = crew;
         listed = record { some = crew .some-worker; few-workers = crew .few-workers; below = turns-of q workers scheme turns lengths log passed };
         reach = reach-start q sound z;
         final = final-start q sound z;

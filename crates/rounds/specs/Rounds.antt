@@ -8,7 +8,6 @@ use lib.ListN.{length, getD}
 use Rattle.rules.specs.Limits.{maxWorkers}
 use Rattle.rules.specs.declared.Scheme.{Scheme}
 use Rattle.rules.specs.Query.{Query}
-use Rattle.rules.specs.Checked.{CrewGood}
 use Rattle.pairs.specs.Shares.{few}
 use Rattle.turns.specs.declared.turn.Worker.{Worker}
 use Rattle.turns.specs.Standing.{Columns, Reach, workerAt, Final, Standing}
@@ -57,9 +56,8 @@ pub record Within (q : Query) (m s : ℕ) (workers : List Worker) (c : Columns) 
   pub standing : Standing q scheme m s workers c
 
 -- all is laid out and checked: size 2 may be opened
-pub record Started (q : Query) (workers scheme : ℕ) (turns sets estimates cells starts cellStarts : List ℕ) (c : Columns) : Type 0 where
+pub record Started (q : Query) (m : ℕ) (turns sets estimates cells starts cellStarts : List ℕ) (c : Columns) : Type 0 where
   pub prepared : Prepared q sets estimates cells starts cellStarts
-  pub crew : CrewGood workers scheme
-  pub listed : Listed workers turns
+  pub listed : Listed m turns
   pub reach : Reach (q .graph) c
   pub final : Final q 2 c

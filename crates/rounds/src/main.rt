@@ -19,16 +19,15 @@ ghost use mathlib.Core.Bool.{true};
 ghost use Prim.Native.Nat.{ℕ, _+_, _≤_, _<_};
 ghost use lib.ListN.{length};
 ghost use Rattle.rules.specs.Limits.{maxWorkers};
-ghost use Rattle.rules.specs.Query.{graphOf};
 ghost use Rattle.query.specs.Lists.{queryOf};
-ghost use Rattle.turns.specs.Standing.{columns, Reach, nobody, workerAt, Final};
+ghost use Rattle.turns.specs.Standing.{columns, nobody, workerAt};
 ghost use Rattle.turns.specs.StartLaws.{Prepared};
 ghost use Rattle.rounds.specs.Rounds.{Printable, Shown, LowestLeft, whose, entriesOn, Listed, Between, Within, Started};
 
 const STDOUT: i32 = 1;
 
-// The workers at the end of a size, and how many entries of the list of turns are used up.
-struct Closed {
+// The workers between sizes, and how many entries of the list of turns are used up.
+struct State {
     workers: [Worker; 8],
     used: usize,
 }
@@ -173,7 +172,8 @@ fn entries_on(count: usize, used: usize) -> usize
     used
 }
 
-// Turns of size `s` until no worker has a pair left: first the entries of the list, then the lowest-numbered worker.
+// Turns of size `s` until no worker has a pair left: first the entries of the list, then the lowest-numbered worker. The scan costs are
+// named in the promise alone.
 fn take_turns(
     rows: &[u64],
     scans: &[u64],
@@ -195,8 +195,8 @@ fn take_turns(
     s: usize,
     count: usize,
     turns: &[u64],
-    opened: Closed,
-) -> Closed
+    opened: State,
+) -> State
     requires { ⌜ Prepared (queryOf (now rows) (now scans) (now left) (now right) (now divisors) (now fixed) (now outer) (now inner) (now result)) (now sets) (now estimates) (now skips) (now starts) (now cells) ⌝ }
     requires { ⌜ (2 ≤ s) × (s ≤ length (now rows)) × Listed count (now turns) ⌝ }
     requires { ⌜ Within (queryOf (now rows) (now scans) (now left) (now right) (now divisors) (now fixed) (now outer) (now inner) (now result)) count s (opened .workers) (columns (now costs) (now outers) (now methods)) ⌝ }
@@ -235,7 +235,7 @@ fn take_turns(
         print_pair(w, pair);
         low = lowest(workers, count);
     }
-    Closed {
+    State {
         workers: workers,
         used: used,
     }
@@ -283,18 +283,16 @@ fn run_sizes(
     count: usize,
     turns: &[u64],
 )
-    requires { ⌜ Prepared (queryOf (now rows) (now scans) (now left) (now right) (now divisors) (now fixed) (now outer) (now inner) (now result)) (now sets) (now estimates) (now skips) (now starts) (now cells) ⌝ }
-    requires { ⌜ Listed count (now turns) ⌝ }
-    requires { ⌜ Reach (graphOf (now rows) (now left) (now right) (now divisors)) (columns (now costs) (now outers) (now methods)) × Final (queryOf (now rows) (now scans) (now left) (now right) (now divisors) (now fixed) (now outer) (now inner) (now result)) 2 (columns (now costs) (now outers) (now methods)) ⌝ }
+    requires { ⌜ Started (queryOf (now rows) (now scans) (now left) (now right) (now divisors) (now fixed) (now outer) (now inner) (now result)) count (now turns) (now sets) (now estimates) (now skips) (now starts) (now cells) (columns (now costs) (now outers) (now methods)) ⌝ }
 {
     let nobody = nobody();
-    let mut state = Closed {
+    let mut state = State {
         workers: [nobody; 8],
         used: 0,
     };
     let mut s = 2;
     while s <= rows.len() {
-        let before = state.workers;
+        let old = state.workers;
         let workers = open(
             rows,
             left,
@@ -307,10 +305,10 @@ fn run_sizes(
             s,
             scheme,
             count,
-            before,
+            old,
         );
         print_size(sets, s, scheme, workers, count);
-        let opened = Closed {
+        let opened = State {
             workers: workers,
             used: state.used,
         };
@@ -365,7 +363,7 @@ fn lay(
     cells: &mut [usize],
 ) -> bool
     requires { ⌜ (length (now rows) + 2 ≤ length (now starts)) × (length (now rows) + 2 ≤ length (now cells)) ⌝ }
-    ensures { λ r. ⌜ (r ≡ true → Started (queryOf (now (rows .entry)) (now (scans .entry)) (now (left .entry)) (now (right .entry)) (now (divisors .entry)) (now (fixed .entry)) (now (outer .entry)) (now (inner .entry)) (now (result .entry))) workers scheme (now (turns .entry)) (now (sets .exit)) (now (estimates .exit)) (now (skips .exit)) (now (starts .exit)) (now (cells .exit)) (columns (now (costs .exit)) (now (outers .exit)) (now (methods .exit)))) ⌝ }
+    ensures { λ r. ⌜ (r ≡ true → Started (queryOf (now (rows .entry)) (now (scans .entry)) (now (left .entry)) (now (right .entry)) (now (divisors .entry)) (now (fixed .entry)) (now (outer .entry)) (now (inner .entry)) (now (result .entry))) workers (now (turns .entry)) (now (sets .exit)) (now (estimates .exit)) (now (skips .exit)) (now (starts .exit)) (now (cells .exit)) (columns (now (costs .exit)) (now (outers .exit)) (now (methods .exit)))) ⌝ }
 {
     let verdict = check(
         rows,

@@ -142,9 +142,7 @@ slice-aggregate-run-sizes-17 : tie.Need-slice-aggregate-run-sizes-17
 slice-aggregate-run-sizes-17 c = search needs
 
 run-sizes-requires : tie.Need-run-sizes-requires
-run-sizes-requires c κs =
-    let z = c .before .before .before .before .before .before .before .before .before .before .before .before .before .before .before .before .before .before .before .before .before .before .before .before .before .before .before .before .before .before .lay .ensures (not-false _ (c .before .before .before .before .before .before .before .before .before .before .before .before .before .before .before .before .before .before .before .before .before .if1 .left)) in
-    (z .prepared, (z .listed, (z .reach, z .final)))
+run-sizes-requires c κs = c .before .before .before .before .before .before .before .before .before .before .before .before .before .before .before .before .before .before .before .before .before .before .before .before .before .before .before .before .before .before .lay .ensures (not-false _ (c .before .before .before .before .before .before .before .before .before .before .before .before .before .before .before .before .before .before .before .before .before .if1 .left))
 
 enum-told : tie.Need-enum-told
 enum-told c = search needs

@@ -23,18 +23,18 @@ nobody-requires c κs = tt
 loop-holds : tie.Need-loop-holds Inv-loop μ-loop
 loop-holds c =
     let z = c .before .before .before .before .before .before .before .before .before .before .before .before .before .before .before .before .before .before .before .pre in
-    (omega arith, refl, refl, refl, first-between (z .1 .0 .few-workers) (c .nobody .ensures) (z .1 .1 .0) (z .1 .1 .1))
+    (omega arith, refl, refl, refl, first-between (z .listed .few-workers) (c .nobody .ensures) (z .reach) (z .final))
 
 open-requires : tie.Need-open-requires Inv-loop μ-loop
 open-requires c κs =
-    let p = c .before .before .before .before .before .before .before .before .before .before .before .before .before .before .before .before .before .before .before .before .before .before .pre .0 in
-    let crew = c .before .before .before .before .before .before .before .before .before .before .before .before .before .before .before .before .before .before .before .before .before .before .pre .1 .0 in
+    let p = c .before .before .before .before .before .before .before .before .before .before .before .before .before .before .before .before .before .before .before .before .before .before .pre .prepared in
+    let crew = c .before .before .before .before .before .before .before .before .before .before .before .before .before .before .before .before .before .before .before .before .before .before .pre .listed in
     ((p .sound .graph, p .ground), (c .before .before .loop .inv .0, c .before .loop-test .taken, crew .some, crew .few-workers))
 
 print-size-requires : tie.Need-print-size-requires Inv-loop μ-loop
 print-size-requires c κs =
-    let p = c .before .before .before .before .before .before .before .before .before .before .before .before .before .before .before .before .before .before .before .before .before .before .before .pre .0 in
-    let crew = c .before .before .before .before .before .before .before .before .before .before .before .before .before .before .before .before .before .before .before .before .before .before .before .pre .1 .0 in
+    let p = c .before .before .before .before .before .before .before .before .before .before .before .before .before .before .before .before .before .before .before .before .before .before .before .pre .prepared in
+    let crew = c .before .before .before .before .before .before .before .before .before .before .before .before .before .before .before .before .before .before .before .before .before .before .before .pre .listed in
     let l = c .before .before .before .loop in
     let known = c .before .before .loop-test .taken in
     let z = opened-within p crew (l .inv .0) known (l .inv .4) (c .open .ensures) in
@@ -42,14 +42,14 @@ print-size-requires c κs =
 
 take-turns-requires : tie.Need-take-turns-requires Inv-loop μ-loop
 take-turns-requires c κs =
-    let p = c .before .before .before .before .before .before .before .before .before .before .before .before .before .before .before .before .before .before .before .before .before .before .before .before .before .before .before .pre .0 in
-    let crew = c .before .before .before .before .before .before .before .before .before .before .before .before .before .before .before .before .before .before .before .before .before .before .before .before .before .before .before .pre .1 .0 in
+    let p = c .before .before .before .before .before .before .before .before .before .before .before .before .before .before .before .before .before .before .before .before .before .before .before .before .before .before .before .pre .prepared in
+    let crew = c .before .before .before .before .before .before .before .before .before .before .before .before .before .before .before .before .before .before .before .before .before .before .before .before .before .before .before .pre .listed in
     let l = c .before .before .before .before .before .before .before .loop in
     let known = c .before .before .before .before .before .before .loop-test .taken in
     (p, ((l .inv .0, known, crew), opened-within p crew (l .inv .0) known (l .inv .4) (c .before .before .before .before .open .ensures)))
 
 add-s : tie.Need-add-s Inv-loop μ-loop
-add-s c = omega (arith, c .before .before .before .before .before .before .before .before .before .before .before .before .before .loop-test .taken, c .before .before .before .before .before .before .before .before .before .before .before .before .before .before .before .before .before .before .before .before .before .before .before .before .before .before .before .before .before .before .before .before .before .before .pre .0 .sound .graph .few-tables)
+add-s c = omega (arith, c .before .before .before .before .before .before .before .before .before .before .before .before .before .loop-test .taken, c .before .before .before .before .before .before .before .before .before .before .before .before .before .before .before .before .before .before .before .before .before .before .before .before .before .before .before .before .before .before .before .before .before .before .pre .prepared .sound .graph .few-tables)
 
 loop-less : tie.Need-loop-less Inv-loop μ-loop
 loop-less c = omega arith
