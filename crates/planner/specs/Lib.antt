@@ -2,4 +2,8 @@
 pub mod Runs
 pub mod LogLaws
 pub mod TallyLaws
+pub mod LeafLaws
 pub mod RunLaws
+pub mod SearchLaws
+pub mod Plans
+pub mod PlanLaws

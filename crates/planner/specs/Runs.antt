@@ -4,7 +4,7 @@ use mathlib.Core.Bool.{true, false, cond}
 use mathlib.Core.List.{List, [], _++_, map}
 use Prim.Native.Nat.{ℕ, suc, _+_, _-_, _*_, _≤_, _<_}
 use lib.Dec.{ltb}
-use lib.ListN.{length, getD, take, drop, set}
+use lib.ListN.{length, getD, take, drop, set, replicate}
 use Rattle.rules.specs.Limits.{maxWorkers}
 use Rattle.rules.specs.declared.Scheme.{Scheme}
 use Rattle.rules.specs.Sets.{size}
@@ -20,10 +20,11 @@ use Rattle.rules.specs.Checked.{Sound}
 use Rattle.rules.specs.Answers.{Spared, Logged, perWorker}
 use Rattle.rules.specs.laws.Turns.{Below}
 use Rattle.rules.specs.laws.Handed.{among, JoinablePair}
+use Rattle.memo.specs.Vectors.{written}
 use Rattle.turns.specs.declared.turn.Worker.{Worker}
 use Rattle.turns.specs.declared.turn.Handed as code
 use Rattle.pairs.specs.Shares.{few}
-use Rattle.turns.specs.Standing.{Columns, choiceIn, unset, Reach, nobody, workerAt, Passed, FinalRow, Final, placesOf, Standing, queuesAt}
+use Rattle.turns.specs.Standing.{Columns, choiceIn, Reach, nobody, workerAt, Passed, FinalRow, Final, placesOf, Standing, queuesAt}
 
 -- ---- sizes in a row, of n in all, from size 2 on
 module _ (m : ℕ) (queues : ℕ → ℕ → List Numbered) (n : ℕ) (turns : List ℕ) where
@@ -131,18 +132,48 @@ pub record SearchReady (q : Query) (m : ℕ) (turns sets estimates cells : List 
   pub sets-laid : take (length (memo (q .graph))) sets ≡ memo (q .graph)
   pub cells-laid : take (length (skips (q .graph))) cells ≡ skips (q .graph)
   pub estimated : take (length (memo (q .graph))) estimates ≡ map (estimate (q .graph)) (memo (q .graph))
-  pub reach : Reach (q .graph) c
-  pub unset-all : (r : ℕ) → r < length (memo (q .graph)) → choiceIn c r ≡ unset
+  pub oldCosts : List ℕ
+  pub oldOuters : List ℕ
+  pub oldMethods : List ℕ
+  pub costs-room : length (memo (q .graph)) ≤ length oldCosts
+  pub outers-room : length (memo (q .graph)) ≤ length oldOuters
+  pub methods-room : length (memo (q .graph)) ≤ length oldMethods
+  pub costs-laid : c .costs ≡ written oldCosts 0 (replicate (length (memo (q .graph))) 0)
+  pub outers-laid : c .outers ≡ written oldOuters 0 (replicate (length (memo (q .graph))) 0)
+  pub methods-laid : c .methods ≡ written oldMethods 0 (replicate (length (memo (q .graph))) 0)
   pub log-fits : LogFits log
+
+-- the columns behind the memo's rows are as they were
+pub record Kept (g : Graph) (old new : Columns) : Type 0 where
+  pub costs : Spared (length (memo g)) (old .costs) (new .costs)
+  pub outers : Spared (length (memo g)) (old .outers) (new .outers)
+  pub methods : Spared (length (memo g)) (old .methods) (new .methods)
+
+-- between two sizes, and between two turns, with what is spare
+pub record Between (q : Query) (scheme : Scheme) (m : ℕ) (turns : List ℕ) (old : Columns) (lent : Memory) (s : ℕ) (workers : List Worker) (at pairs : ℕ) (c : Columns) (log : Memory) : Type 0 where
+  pub ran : Ran q scheme m turns lent s workers at pairs c log
+  pub reach : Reach (q .graph) c
+  pub kept : Kept (q .graph) old c
+  pub log-fits : LogFits log
+
+pub record Within (q : Query) (scheme : Scheme) (m : ℕ) (turns : List ℕ) (old : Columns) (lent : Memory) (s low : ℕ) (workers : List Worker) (at pairs : ℕ) (c : Columns) (log : Memory) : Type 0 where
+  pub running : Running q scheme m turns lent s workers at pairs c log
+  pub lowest : LowestLeft workers m low
+  pub reach : Reach (q .graph) c
+  pub kept : Kept (q .graph) old c
+  pub log-fits : LogFits log
+
+-- whatever was kept and lent before, what stood at one turn of a size stands, carried on, at a later one
+pub record Carried (q : Query) (scheme : Scheme) (m : ℕ) (turns : List ℕ) (s low₀ : ℕ) (workers₀ : List Worker) (at₀ pairs₀ : ℕ) (c₀ : Columns) (log₀ : Memory)
+    (low : ℕ) (workers : List Worker) (at pairs : ℕ) (c : Columns) (log : Memory) : Type 0 where
+  pub carry : (old : Columns) (lent : Memory) → LogFits lent → Within q scheme m turns old lent s low₀ workers₀ at₀ pairs₀ c₀ log₀ → Within q scheme m turns old lent s low workers at pairs c log
 
 -- what it leaves: each row final, the spare ones as they were; log, pairs and counts are those of the turns in a row
 pub record SearchDone (q : Query) (scheme : Scheme) (m : ℕ) (turns : List ℕ) (old new : Columns) (log log′ : Memory) (pairs : ℕ) (counts : List ℕ) : Type 0 where
   pub handed : List (Hand Numbered)
   pub sizes : Sizes m (queue (q .graph) scheme m) 2 (tableCount (q .graph) - 1) turns handed
   pub rows : (r : ℕ) → r < length (memo (q .graph)) → FinalRow q (getD (memo (q .graph)) r 0) (choiceIn new r)
-  pub costs : Spared (length (memo (q .graph))) (old .costs) (new .costs)
-  pub outers : Spared (length (memo (q .graph))) (old .outers) (new .outers)
-  pub methods : Spared (length (memo (q .graph))) (old .methods) (new .methods)
+  pub kept : Kept (q .graph) old new
   pub logged : Logged q handed log log′
   pub count : pairs ≡ length handed
   pub tallies : counts ≡ perWorker (λ w. length (only w handed))

@@ -1,4 +1,109 @@
 // The library's entry: checks, laying out, the turns in a row, the answer.
+ghost use mathlib.Core.Path.{_≡_};
+ghost use Prim.Native.Nat.{ℕ};
+ghost use Rattle.rules.specs.Kinds.{schemeOf};
+ghost use Rattle.rules.specs.declared.Scheme.{Scheme};
+ghost use Rattle.rules.specs.declared.NewScheme.the-variants.{Good};
+ghost use Rattle.rules.specs.Answers.{Planned};
+ghost use Rattle.query.specs.Lists.{queryOf};
+ghost use Rattle.planner.specs.Plans.{memoryOf, inputOf, outcomeOf, refusedWith};
+use memo::layout::lay_out;
+use query::refusals::check;
+use rules::NewScheme;
+use rules::Scheme;
+use search::search;
+
 pub mod log;
 pub mod search;
 pub mod whose;
+
+// "The answer gives best cost, number of memo rows, of skip cells, of joinable pairs, and eight per-worker pair counts"; a refusal
+// gives number and place, and zeros.
+pub struct Answer {
+    pub refusal: u64,
+    pub place: u64,
+    pub best: u64,
+    pub rows: u64,
+    pub cells: u64,
+    pub pairs: u64,
+    pub counts: [u64; 8],
+}
+
+fn refused(number: u64, place: u64) -> Answer
+    ensures { λ r. ⌜ r ≡ refusedWith number place ⌝ }
+{
+    Answer {
+        refusal: number,
+        place: place,
+        best: 0,
+        rows: 0,
+        cells: 0,
+        pairs: 0,
+        counts: [0u64; 8],
+    }
+}
+
+// The scheme of a number that has one.
+fn known(number: u64) -> Scheme
+    requires { ⌜ ((s : Scheme) × (schemeOf number ≡ Good s)) ⌝ }
+    ensures { λ r. ⌜ schemeOf number ≡ Good r ⌝ }
+{
+    match Scheme::from_number(number) {
+        NewScheme::Good(scheme) => scheme,
+        NewScheme::Unknown => Scheme::CutCandidates,
+    }
+}
+
+// Plans a query in lent memory, or refuses it with a number and a place and nothing changed.
+pub fn plan(
+    rows: &[u64],
+    scans: &[u64],
+    left: &[u64],
+    right: &[u64],
+    divisors: &[u64],
+    fixed: &[u64],
+    per_outer: &[u64],
+    per_inner: &[u64],
+    per_result: &[u64],
+    workers: u64,
+    scheme: u64,
+    turns: &[u64],
+    sets: &mut [u64],
+    estimates: &mut [u64],
+    costs: &mut [u64],
+    outers: &mut [u64],
+    methods: &mut [u64],
+    skips: &mut [u64],
+    log_workers: &mut [u64],
+    log_driving: &mut [u64],
+    log_inner: &mut [u64],
+    log_costs: &mut [u64],
+) -> Answer
+    ensures { λ r. ⌜ Planned (inputOf (queryOf (now (rows .entry)) (now (scans .entry)) (now (left .entry)) (now (right .entry)) (now (divisors .entry)) (now (fixed .entry)) (now («per_outer» .entry)) (now («per_inner» .entry)) (now («per_result» .entry))) workers scheme (now (turns .entry)) (memoryOf (now (sets .entry)) (now (estimates .entry)) (now (costs .entry)) (now (outers .entry)) (now (methods .entry)) (now (skips .entry)) (now («log_workers» .entry)) (now («log_driving» .entry)) (now («log_inner» .entry)) (now («log_costs» .entry)))) (outcomeOf r (memoryOf (now (sets .exit)) (now (estimates .exit)) (now (costs .exit)) (now (outers .exit)) (now (methods .exit)) (now (skips .exit)) (now («log_workers» .exit)) (now («log_driving» .exit)) (now («log_inner» .exit)) (now («log_costs» .exit)))) ⌝ }
+{
+    let verdict = check(
+        rows, scans, left, right, divisors, fixed, per_outer, per_inner, per_result, workers, scheme, turns, sets.len(), estimates.len(),
+        costs.len(), outers.len(), methods.len(), log_workers.len(), log_driving.len(), log_inner.len(), log_costs.len(),
+    );
+    if verdict.number != 0 {
+        return refused(verdict.number, verdict.place);
+    }
+    let laid = lay_out(rows, left, right, divisors, sets, estimates, costs, outers, methods, skips);
+    if laid.refusal != 0 {
+        return refused(laid.refusal, 0);
+    }
+    let found = search(
+        rows, scans, left, right, divisors, fixed, per_outer, per_inner, per_result, known(scheme), workers as usize, turns, sets,
+        estimates, costs, outers, methods, skips, log_workers, log_driving, log_inner, log_costs,
+    );
+    let counts = found.counts;
+    Answer {
+        refusal: 0,
+        place: 0,
+        best: costs[laid.rows as usize - 1],
+        rows: laid.rows,
+        cells: laid.cells,
+        pairs: found.pairs as u64,
+        counts: counts,
+    }
+}

@@ -189,19 +189,25 @@ known-at g f old room e (suc k) a b =
     let h : suc k - 1 ≡ k = omega arith in
     ap (λ (x : List ℕ). getD x (suc k) 0) e ∙ written-at (0 ∷ countsTo f (tableCount g + 1)) old (suc k) (omega arith) (omega arith) ∙ counts-at f (tableCount g + 1) k (omega arith) ∙ ap f (sym h)
 
--- the memo as laying out leaves it is one to search in
-pub ground-of : (g : Graph) (oldSets oldCells oldStarts oldCellStarts : List ℕ) {sets cells starts₁ cellStarts₁ : List ℕ}
-    → length (memo g) ≤ length oldSets → length (skips g) ≤ length oldCells → tableCount g + 2 ≤ length oldStarts → tableCount g + 2 ≤ length oldCellStarts
-    → sets ≡ written oldSets 0 (memo g) → cells ≡ written oldCells 0 (skips g) → starts₁ ≡ written oldStarts 0 (starts g) → cellStarts₁ ≡ written oldCellStarts 0 (cellStarts g)
-    → Ground g sets cells starts₁ cellStarts₁
-ground-of g oldSets oldCells oldStarts oldCellStarts a b c d e f h i = record {
-  sets-laid = front (memo g) oldSets a refl e;
-  cells-laid = front (skips g) oldCells b refl f;
+-- a memo that is laid out, with where each size begins, is one to search in
+pub ground-at : (g : Graph) (oldStarts oldCellStarts : List ℕ) {sets cells starts₁ cellStarts₁ : List ℕ}
+    → take (length (memo g)) sets ≡ memo g → take (length (skips g)) cells ≡ skips g → tableCount g + 2 ≤ length oldStarts → tableCount g + 2 ≤ length oldCellStarts
+    → starts₁ ≡ written oldStarts 0 (starts g) → cellStarts₁ ≡ written oldCellStarts 0 (cellStarts g) → Ground g sets cells starts₁ cellStarts₁
+ground-at g oldStarts oldCellStarts a b c d h i = record {
+  sets-laid = a;
+  cells-laid = b;
   starts-known = known-at g (λ k. length (upTo g k)) oldStarts c h;
   starts-long = omega (arith, still-long (starts g) oldStarts h);
   cells-known = known-at g (λ k. length (cellsTo g k)) oldCellStarts d i;
   cells-long = omega (arith, still-long (cellStarts g) oldCellStarts i);
 }
+
+-- as laying out leaves it
+pub ground-of : (g : Graph) (oldSets oldCells oldStarts oldCellStarts : List ℕ) {sets cells starts₁ cellStarts₁ : List ℕ}
+    → length (memo g) ≤ length oldSets → length (skips g) ≤ length oldCells → tableCount g + 2 ≤ length oldStarts → tableCount g + 2 ≤ length oldCellStarts
+    → sets ≡ written oldSets 0 (memo g) → cells ≡ written oldCells 0 (skips g) → starts₁ ≡ written oldStarts 0 (starts g) → cellStarts₁ ≡ written oldCellStarts 0 (cellStarts g)
+    → Ground g sets cells starts₁ cellStarts₁
+ground-of g oldSets oldCells oldStarts oldCellStarts a b c d e f h i = ground-at g oldStarts oldCellStarts (front (memo g) oldSets a refl e) (front (skips g) oldCells b refl f) c d h i
 
 -- a checked query whose memo is laid out: what no turn changes
 pub record Prepared (q : Query) (sets estimates cells starts cellStarts : List ℕ) : Type 0 where

@@ -250,6 +250,16 @@ pub size-le : (n S : ℕ) → S < 2 ^ n → size S ≤ n
 size-le zero S l = let e : S ≡ 0 = omega arith in omega (arith, ap size e, size-zero)
 size-le (suc n) S l = omega (arith, ones-step S, size-le n (S / 2) (omega arith))
 
+-- a set of all n tables is the full one
+pub full-only : (n S : ℕ) → S < 2 ^ n → size S ≡ n → S ≡ 2 ^ n - 1
+full-only zero S l e = omega arith
+full-only (suc n) S l e =
+    let a = ones-step S in
+    let b = size-le n (S / 2) (omega arith) in
+    let c : S / 2 ≡ 2 ^ n - 1 = full-only n (S / 2) (omega arith) (omega arith) in
+    omega arith
+
+
 -- a number is even or odd
 abbrev pub Parity : ℕ → Type 0
 Parity n = (n % 2 ≡ 0) ⊎ (n % 2 ≡ 1)

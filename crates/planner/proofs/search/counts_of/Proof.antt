@@ -1,49 +1,48 @@
+use mathlib.Core.Path.{_≡_, refl, _∙_}
+use Prim.Native.Nat.{_-_, _≤_}
+use native.Mathlib.Omega.{arith}
+use lib.ListN.{length, take, length-set}
+use Rattle.planner.specs.Runs.{countsOf}
+use Rattle.planner.specs.LeafLaws.{counts-more, counts-all}
 use Rattle.planner.proofs.search.counts_of.Statement.{statement}
 use Rattle.planner.proofs.search.counts_of.Tie as tie
-use Rattle.planner.proofs.search.counts_of.Reads as reads
-use Rattle.planner.proofs.search.counts_of.Lts as lts
 
 abbrev Inv-loop : tie.InvT-loop
-Inv-loop workers counts₀ w₀ counts w = ?
+Inv-loop workers counts₀ w₀ counts w = (w ≤ 8) × (length counts ≡ 8) × (take w counts ≡ countsOf (take w workers))
 
 abbrev μ-loop : tie.MeasureT-loop
-μ-loop workers counts₀ w₀ counts w = ?
+μ-loop workers counts₀ w₀ counts w = 8 - w
 
--- src/search.rt:52:5
 loop-holds : tie.Need-loop-holds Inv-loop μ-loop
-loop-holds c = ?
+loop-holds c = (omega arith, omega arith, refl)
 
--- src/search.rt:53:22
 mul-worker : tie.Need-mul-worker Inv-loop μ-loop
-mul-worker c = ?
+mul-worker c = omega arith
 
--- src/search.rt:53:22
 array-copy-out-worker : tie.Need-array-copy-out-worker Inv-loop μ-loop
-array-copy-out-worker c = ?
+array-copy-out-worker c = omega arith
 
--- src/search.rt:54:9
 mul-counts : tie.Need-mul-counts Inv-loop μ-loop
-mul-counts c = ?
+mul-counts c = omega arith
 
--- src/search.rt:54:9
 array-write-counts : tie.Need-array-write-counts Inv-loop μ-loop
-array-write-counts c = ?
+array-write-counts c = omega arith
 
--- src/search.rt:52:9
 add-w : tie.Need-add-w Inv-loop μ-loop
-add-w c = ?
+add-w c = omega arith
 
--- src/search.rt:52:5
 loop-less : tie.Need-loop-less Inv-loop μ-loop
-loop-less c = ?
+loop-less c = omega arith
 
--- src/search.rt:52:5
 loop-again : tie.Need-loop-again Inv-loop μ-loop
-loop-again c = ?
+loop-again c =
+    let l = c .before .before .loop in
+    (omega arith, length-set (l .counts) (l .w) _ ∙ l .inv .1, counts-more (c .before .before .before .args .t1) (l .counts) (l .w) (omega arith) (omega arith) (l .inv .2))
 
--- src/search.rt:48:1
 returns : tie.Need-returns Inv-loop μ-loop
-returns c = ?
+returns c =
+    let l = c .before .loop in
+    counts-all (c .before .before .args .t1) (l .counts) (l .w) (omega arith) (omega arith) (l .inv .2)
 
 pub counts-of-spec : {M : Type 1} → statement M
 counts-of-spec =

@@ -1,20 +1,16 @@
 use borrow.Author.Needs.{needs}
+use Rattle.planner.specs.LeafLaws.{entries-more, entries-same}
 use Rattle.planner.proofs.whose.entries_on.Statement.{statement}
 use Rattle.planner.proofs.whose.entries_on.Tie as tie
-use Rattle.planner.proofs.whose.entries_on.Reads as reads
-use Rattle.planner.proofs.whose.entries_on.Lts as lts
 
--- src/whose.rt:41:16
 add-result : tie.Need-add-result
 add-result c = search needs
 
--- src/whose.rt:41:9
 returns : tie.Need-returns
-returns c = ?
+returns c = entries-more _ _ (c .if1 .taken)
 
--- src/whose.rt:37:1
 returns-2 : tie.Need-returns-2
-returns-2 c = ?
+returns-2 c = entries-same _ _ (c .if1 .left)
 
 pub entries-on-spec : {M : Type 1} → statement M
 entries-on-spec = tie.close (tie.spec add-result returns returns-2)

@@ -1,45 +1,45 @@
+use Prim.Native.Nat.{_-_, _≤_}
+use native.Mathlib.Omega.{arith}
+use Rattle.planner.specs.LeafLaws.{NoneLeft, none-more}
 use Rattle.planner.proofs.whose.lowest.Statement.{statement}
 use Rattle.planner.proofs.whose.lowest.Tie as tie
-use Rattle.planner.proofs.whose.lowest.Reads as reads
-use Rattle.planner.proofs.whose.lowest.Lts as lts
 
 abbrev Inv-loop : tie.InvT-loop
-Inv-loop count workers w₀ w = ?
+Inv-loop count workers w₀ w = NoneLeft workers w × (w ≤ count)
 
 abbrev μ-loop : tie.MeasureT-loop
-μ-loop count workers w₀ w = ?
+μ-loop count workers w₀ w = count - w
 
--- src/whose.rt:15:5
 loop-holds : tie.Need-loop-holds Inv-loop μ-loop
-loop-holds c = ?
+loop-holds c = (λ v l. absurd (omega arith), omega arith)
 
--- src/whose.rt:16:22
 mul-worker : tie.Need-mul-worker Inv-loop μ-loop
-mul-worker c = ?
+mul-worker c = omega arith
 
--- src/whose.rt:16:22
 array-copy-out-worker : tie.Need-array-copy-out-worker Inv-loop μ-loop
-array-copy-out-worker c = ?
+array-copy-out-worker c = omega arith
 
--- src/whose.rt:21:9
 add-w : tie.Need-add-w Inv-loop μ-loop
-add-w c = ?
+add-w c = omega arith
 
--- src/whose.rt:15:5
 loop-less : tie.Need-loop-less Inv-loop μ-loop
-loop-less c = ?
+loop-less c = omega arith
 
--- src/whose.rt:15:5
 loop-again : tie.Need-loop-again Inv-loop μ-loop
-loop-again c = ?
+loop-again c =
+    let s = c .before .before .before .before .before in
+    let l = c .before .before .before .before .loop in
+    (none-more (s .args .t1) (l .w) (l .inv .0) (c .if1 .left), omega arith)
 
--- src/whose.rt:10:1
 returns : tie.Need-returns Inv-loop μ-loop
-returns c = ?
+returns c =
+    let l = c .before .loop in
+    record { inside = l .inv .1; lower = l .inv .0; left = λ i. absurd (omega arith) }
 
--- src/whose.rt:10:1
 returns-2 : tie.Need-returns-2 Inv-loop μ-loop
-returns-2 c = ?
+returns-2 c =
+    let l = c .before .before .before .before .loop in
+    record { inside = l .inv .1; lower = l .inv .0; left = λ i. c .if1 .taken }
 
 pub lowest-spec : {M : Type 1} → statement M
 lowest-spec =

@@ -1,0 +1,76 @@
+-- Whose turn it is, the log's next entry and the counts, as the code reckons them.
+use mathlib.Core.Path.{_≡_, refl, sym, ap, _∙_}
+use mathlib.Core.Bool.{true, false}
+use mathlib.Core.List.{List, [], _∷_, map-append}
+use Prim.Native.Nat.{ℕ, suc, _+_, _≤_, _<_}
+use native.Mathlib.Decide.{ℕ-discrete}
+use native.Mathlib.Omega.{arith}
+use borrow.Author.Tests.{lt-ltb, le-ltb}
+use lib.ListN.{length, getD, set, take}
+use lib.Seq.{take-all, take-suc, take-suc-set, set-out}
+use Rattle.rules.specs.Refusals.{Memory}
+use Rattle.turns.specs.declared.turn.Worker.{Worker}
+use Rattle.turns.specs.declared.turn.Handed as code
+use Rattle.turns.specs.Standing.{nobody, workerAt}
+use Rattle.planner.specs.Runs.{logOf, noted, SameLog, notedIf, countIf, LogFits, whose, entriesOn, countsOf}
+
+-- ---- whose turn it is
+-- none of the first w workers has a pair left
+abbrev pub NoneLeft : List Worker → ℕ → Type 0
+NoneLeft workers w = (v : ℕ) → v < w → workerAt workers v .place .left ≡ false
+
+-- nor has the next
+pub none-more : (workers : List Worker) (w : ℕ) → NoneLeft workers w → workerAt workers w .place .left ≡ false → NoneLeft workers (w + 1)
+none-more workers w z e v l = go (ℕ-discrete v w)
+  where
+    go : Dec (v ≡ w) → workerAt workers v .place .left ≡ false
+    go (yes i) = rw i e
+    go (no n) = z v (omega arith)
+
+-- the list has an entry for the turn
+pub whose-listed : (turns : List ℕ) (at low : ℕ) → at < length turns → getD turns at 0 ≡ whose turns at low
+whose-listed turns at low l = rw (lt-ltb at (length turns) l) refl
+
+-- it is used up
+pub whose-lowest : (turns : List ℕ) (at low : ℕ) → length turns ≤ at → low ≡ whose turns at low
+whose-lowest turns at low l = rw (le-ltb at (length turns) l) refl
+
+-- one more entry is used
+pub entries-more : (n at : ℕ) → at < n → at + 1 ≡ entriesOn n at
+entries-more n at l = rw (lt-ltb at n l) refl
+
+-- all were used
+pub entries-same : (n at : ℕ) → n ≤ at → at ≡ entriesOn n at
+entries-same n at l = rw (le-ltb at n l) refl
+
+-- ---- the log
+-- without room for an entry it stays
+pub noted-full : (log : Memory) {log′ : Memory} (j w : ℕ) (p : code.Handed) → LogFits log → length (log .logWorkers) ≤ j → SameLog log′ log → SameLog log′ (noted log j w p)
+noted-full log j w p z l e = record {
+  workers = e .workers ∙ sym (set-out (log .logWorkers) j w l);
+  driving = e .driving ∙ sym (set-out (log .logDriving) j (p .driving) (omega (arith, z .driving)));
+  inner = e .inner ∙ sym (set-out (log .logInner) j (p .inner) (omega (arith, z .inner)));
+  costs = e .costs ∙ sym (set-out (log .logCosts) j (p .cost) (omega (arith, z .costs)));
+}
+
+-- a turn without a pair
+pub note-none : (log : Memory) (j w : ℕ) (p : code.Handed) → p .found ≡ false → (j ≡ countIf j p) × (log ≡ notedIf log j w p)
+note-none log j w p e = rw e (refl, refl)
+
+-- a turn with one
+pub note-some : (workers driving inner costs : List ℕ) (log : Memory) (j w : ℕ) (p : code.Handed) → p .found ≡ true
+    → SameLog (logOf workers driving inner costs) (noted log j w p) → (j + 1 ≡ countIf j p) × (logOf workers driving inner costs ≡ notedIf log j w p)
+note-some workers driving inner costs log j w p e s = rw (e, s .workers, s .driving, s .inner, s .costs) (refl, refl)
+
+-- ---- counts
+-- one more is stored
+pub counts-more : (workers : List Worker) (counts : List ℕ) (w : ℕ) → w < length workers → length counts ≡ length workers
+    → take w counts ≡ countsOf (take w workers) → take (w + 1) (set counts w (workerAt workers w .handed)) ≡ countsOf (take (w + 1) workers)
+counts-more workers counts w l e h =
+    let n : w + 1 ≡ suc w = omega arith in
+    let x = workerAt workers w in
+    rw (n, take-suc-set counts w (x .handed) (omega arith), take-suc workers w nobody l, map-append (λ (v : Worker). v .handed) (take w workers) (x ∷ []), h) refl
+
+-- all are stored
+pub counts-all : (workers : List Worker) (counts : List ℕ) (w : ℕ) → length workers ≤ w → length counts ≡ length workers → take w counts ≡ countsOf (take w workers) → counts ≡ countsOf workers
+counts-all workers counts w l e h = sym (take-all w counts (omega arith)) ∙ h ∙ ap countsOf (take-all w workers l)
