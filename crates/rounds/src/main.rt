@@ -4,7 +4,6 @@ use memo::columns::lay_starts;
 use memo::layout::lay_out;
 use pairs::places::nowhere;
 use pairs::shares::Share;
-use pairs::shares::share_of;
 use query::refusals::check;
 use rules::NewScheme;
 use rules::Scheme;
@@ -15,11 +14,20 @@ use turns::scans::lay_scans;
 use turns::turn::Handed;
 use turns::turn::Worker;
 use turns::turn::turn;
+ghost use mathlib.Core.Path.{_≡_};
+ghost use mathlib.Core.Bool.{true};
+ghost use Prim.Native.Nat.{ℕ, _+_, _≤_, _<_};
+ghost use lib.ListN.{length};
+ghost use Rattle.rules.specs.Limits.{maxWorkers};
+ghost use Rattle.query.specs.Lists.{queryOf};
+ghost use Rattle.turns.specs.Standing.{columns, nobody, workerAt};
+ghost use Rattle.turns.specs.StartLaws.{Prepared};
+ghost use Rattle.rounds.specs.Rounds.{Printable, Shown, LowestLeft, whose, entriesOn, Listed, Between, Within, Started};
 
 const STDOUT: i32 = 1;
 
-// The workers at the end of a size, and how many entries of the list of turns are used up.
-struct Closed {
+// The workers between sizes, and how many entries of the list of turns are used up.
+struct State {
     workers: [Worker; 8],
     used: usize,
 }
@@ -29,7 +37,9 @@ fn put(text: &[u8]) {
 }
 
 // The tables of a set, ascending, with commas.
-fn print_set(set: u64) {
+fn print_set(set: u64)
+    requires { ⌜ Printable set ⌝ }
+{
     let mut left = set;
     while left != 0 {
         let t = lowest_table(left);
@@ -42,7 +52,9 @@ fn print_set(set: u64) {
 }
 
 // A worker's cut of the candidates, which is its share under scheme 1.
-fn print_share(share: Share) {
+fn print_share(share: Share)
+    requires { ⌜ share .from ≤ share .to ⌝ }
+{
     io::print_decimal(STDOUT, share.worker as u64);
     put(b" has ");
     io::print_decimal(STDOUT, (share.to - share.from) as u64);
@@ -50,7 +62,9 @@ fn print_share(share: Share) {
 }
 
 // Where a worker waits: the number of its next joinable pair, and the pair.
-fn print_place(sets: &[u64], worker: Worker) {
+fn print_place(sets: &[u64], worker: Worker)
+    requires { ⌜ Shown (now sets) worker ⌝ }
+{
     let share = worker.share;
     let place = worker.place;
     io::print_decimal(STDOUT, share.worker as u64);
@@ -60,15 +74,19 @@ fn print_place(sets: &[u64], worker: Worker) {
         put(b": none\n");
         return;
     }
+    let i = place.row;
+    let j = place.inner;
     put(b": ");
-    print_set(sets[place.row]);
+    print_set(sets[i]);
     put(b" ");
-    print_set(sets[place.inner]);
+    print_set(sets[j]);
     put(b"\n");
 }
 
 // What a turn of worker `w` handed, and the cost in the result's row after it.
-fn print_pair(w: usize, pair: Handed) {
+fn print_pair(w: usize, pair: Handed)
+    requires { ⌜ Printable (pair .driving) × Printable (pair .inner) ⌝ }
+{
     io::print_decimal(STDOUT, w as u64);
     if !pair.found {
         put(b" joins none\n");
@@ -84,7 +102,9 @@ fn print_pair(w: usize, pair: Handed) {
 }
 
 // The shares of `count` workers.
-fn print_shares(workers: [Worker; 8], count: usize) {
+fn print_shares(workers: [Worker; 8], count: usize)
+    requires { ⌜ (count ≤ maxWorkers) × ((w : ℕ) → w < count → workerAt workers w .share .from ≤ workerAt workers w .share .to) ⌝ }
+{
     for w in 0..count {
         let worker = workers[w];
         let share = worker.share;
@@ -93,15 +113,33 @@ fn print_shares(workers: [Worker; 8], count: usize) {
 }
 
 // The places of `count` workers.
-fn print_places(sets: &[u64], workers: [Worker; 8], count: usize) {
+fn print_places(sets: &[u64], workers: [Worker; 8], count: usize)
+    requires { ⌜ (count ≤ maxWorkers) × ((w : ℕ) → w < count → Shown (now sets) (workerAt workers w)) ⌝ }
+{
     for w in 0..count {
         let worker = workers[w];
         print_place(sets, worker);
     }
 }
 
+// A size as it is opened; under scheme 1 with the workers' shares, which are cuts of its candidates.
+fn print_size(sets: &[u64], s: usize, scheme: Scheme, workers: [Worker; 8], count: usize)
+    requires { ⌜ (count ≤ maxWorkers) × ((w : ℕ) → w < count → Shown (now sets) (workerAt workers w)) ⌝ }
+{
+    put(b"size ");
+    io::print_decimal(STDOUT, s as u64);
+    put(b"\n");
+    if scheme.number() == 1 {
+        print_shares(workers, count);
+    }
+    print_places(sets, workers, count);
+}
+
 // "The lowest-numbered worker with a pair left", or `count`.
-fn lowest(workers: [Worker; 8], count: usize) -> usize {
+fn lowest(workers: [Worker; 8], count: usize) -> usize
+    requires { ⌜ count ≤ maxWorkers ⌝ }
+    ensures { λ r. ⌜ LowestLeft count workers r ⌝ }
+{
     let mut w = 0;
     while w < count {
         let worker = workers[w];
@@ -114,7 +152,28 @@ fn lowest(workers: [Worker; 8], count: usize) -> usize {
     w
 }
 
-// Turns of size `s` until no worker has a pair left: first the entries of the list, then the lowest-numbered worker.
+// The worker that entry `used` of the list names, or, where the list is used up, `low`.
+fn whose(turns: &[u64], used: usize, low: usize) -> usize
+    ensures { λ r. ⌜ r ≡ whose (now (turns .entry)) used low ⌝ }
+{
+    if used < turns.len() {
+        return turns[used] as usize;
+    }
+    low
+}
+
+// How many of `count` entries are used up after one more turn.
+fn entries_on(count: usize, used: usize) -> usize
+    ensures { λ r. ⌜ r ≡ entriesOn count used ⌝ }
+{
+    if used < count {
+        return used + 1;
+    }
+    used
+}
+
+// Turns of size `s` until no worker has a pair left: first the entries of the list, then the lowest-numbered worker. The scan costs are
+// named in the promise alone.
 fn take_turns(
     rows: &[u64],
     scans: &[u64],
@@ -134,20 +193,21 @@ fn take_turns(
     starts: &[usize],
     cells: &[usize],
     s: usize,
-    scheme: Scheme,
     count: usize,
     turns: &[u64],
-    opened: Closed,
-) -> Closed {
+    opened: State,
+) -> State
+    requires { ⌜ Prepared (queryOf (now rows) (now scans) (now left) (now right) (now divisors) (now fixed) (now outer) (now inner) (now result)) (now sets) (now estimates) (now skips) (now starts) (now cells) ⌝ }
+    requires { ⌜ (2 ≤ s) × (s ≤ length (now rows)) × Listed count (now turns) ⌝ }
+    requires { ⌜ Within (queryOf (now rows) (now scans) (now left) (now right) (now divisors) (now fixed) (now outer) (now inner) (now result)) count s (opened .workers) (columns (now costs) (now outers) (now methods)) ⌝ }
+    ensures { λ r. ⌜ Between (queryOf (now (rows .entry)) (now (scans .entry)) (now (left .entry)) (now (right .entry)) (now (divisors .entry)) (now (fixed .entry)) (now (outer .entry)) (now (inner .entry)) (now (result .entry))) count (s + 1) (r .workers) (columns (now (costs .exit)) (now (outers .exit)) (now (methods .exit))) ⌝ }
+{
     let mut workers = opened.workers;
     let mut used = opened.used;
     let mut low = lowest(workers, count);
     while low < count {
-        let mut w = low;
-        if used < turns.len() {
-            w = turns[used] as usize;
-            used += 1;
-        }
+        let w = whose(turns, used, low);
+        used = entries_on(turns.len(), used);
         let turned = turn(
             rows,
             left,
@@ -175,9 +235,28 @@ fn take_turns(
         print_pair(w, pair);
         low = lowest(workers, count);
     }
-    Closed {
+    State {
         workers: workers,
         used: used,
+    }
+}
+
+// No worker yet.
+fn nobody() -> Worker
+    ensures { λ r. ⌜ r ≡ nobody ⌝ }
+{
+    Worker {
+        share: Share {
+            scheme: Scheme::CutCandidates,
+            workers: 0,
+            worker: 0,
+            total: 0,
+            from: 0,
+            to: 0,
+        },
+        place: nowhere(0),
+        last: 0,
+        handed: 0,
     }
 }
 
@@ -203,23 +282,17 @@ fn run_sizes(
     scheme: Scheme,
     count: usize,
     turns: &[u64],
-) {
-    let nobody = Worker {
-        share: share_of(Scheme::CutCandidates, 1, 0, 0),
-        place: nowhere(0),
-        last: 0,
-        handed: 0,
-    };
-    let mut state = Closed {
+)
+    requires { ⌜ Started (queryOf (now rows) (now scans) (now left) (now right) (now divisors) (now fixed) (now outer) (now inner) (now result)) count (now turns) (now sets) (now estimates) (now skips) (now starts) (now cells) (columns (now costs) (now outers) (now methods)) ⌝ }
+{
+    let nobody = nobody();
+    let mut state = State {
         workers: [nobody; 8],
         used: 0,
     };
     let mut s = 2;
     while s <= rows.len() {
-        put(b"size ");
-        io::print_decimal(STDOUT, s as u64);
-        put(b"\n");
-        let before = state.workers;
+        let old = state.workers;
         let workers = open(
             rows,
             left,
@@ -232,13 +305,10 @@ fn run_sizes(
             s,
             scheme,
             count,
-            before,
+            old,
         );
-        if scheme.number() == 1 {
-            print_shares(workers, count);
-        }
-        print_places(sets, workers, count);
-        let opened = Closed {
+        print_size(sets, s, scheme, workers, count);
+        let opened = State {
             workers: workers,
             used: state.used,
         };
@@ -261,7 +331,6 @@ fn run_sizes(
             starts,
             cells,
             s,
-            scheme,
             count,
             turns,
             opened,
@@ -292,7 +361,10 @@ fn lay(
     skips: &mut [u64],
     starts: &mut [usize],
     cells: &mut [usize],
-) -> bool {
+) -> bool
+    requires { ⌜ (length (now rows) + 2 ≤ length (now starts)) × (length (now rows) + 2 ≤ length (now cells)) ⌝ }
+    ensures { λ r. ⌜ (r ≡ true → Started (queryOf (now (rows .entry)) (now (scans .entry)) (now (left .entry)) (now (right .entry)) (now (divisors .entry)) (now (fixed .entry)) (now (outer .entry)) (now (inner .entry)) (now (result .entry))) workers (now (turns .entry)) (now (sets .exit)) (now (estimates .exit)) (now (skips .exit)) (now (starts .exit)) (now (cells .exit)) (columns (now (costs .exit)) (now (outers .exit)) (now (methods .exit)))) ⌝ }
+{
     let verdict = check(
         rows,
         scans,
@@ -419,12 +491,12 @@ fn run(scheme: u64, workers: u64, turns: &[u64]) {
 // A scheme's four crews; C5's, two workers under scheme 3, has the list of turns 1,1.
 fn crews(scheme: u64) {
     let list = [1u64; 2];
-    let mut listed = 0;
-    if scheme == 3 {
-        listed = 2;
-    }
     run(scheme, 1, &list[0..0]);
-    run(scheme, 2, &list[0..listed]);
+    if scheme == 3 {
+        run(scheme, 2, &list);
+    } else {
+        run(scheme, 2, &list[0..0]);
+    }
     run(scheme, 3, &list[0..0]);
     run(scheme, 8, &list[0..0]);
 }

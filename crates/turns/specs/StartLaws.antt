@@ -14,7 +14,7 @@ use Rattle.rules.specs.Query.{Graph, Query, tableCount, methodCount, at}
 use Rattle.rules.specs.Estimate.{estimate}
 use Rattle.rules.specs.Rows.{rowsOf, memo}
 use Rattle.rules.specs.Skips.{skips}
-use Rattle.rules.specs.Checked.{Sound}
+use Rattle.rules.specs.Checked.{GoodGraph, Sound}
 use Rattle.rules.specs.laws.Bools.{true-yes}
 use Rattle.rules.specs.laws.Lists.{length-map, over-at}
 use Rattle.rules.specs.laws.Sets.{size-pow}
@@ -108,8 +108,12 @@ module _ (g : Graph) where
       let e : r - startOf g 1 ≡ r = omega (arith, start-one) in
       memo-row g 1 r (omega arith) (omega (arith, start-one)) (omega (arith, start-two)) ∙ ap (λ (x : ℕ). getD (rowsOf g 1) x 0) e ∙ one-rows .1 r l
 
+  -- so the memo has a row for each table
+  pub tables-fit : GoodGraph g → tableCount g ≤ length (memo g)
+  tables-fit good = omega (arith, start-two, start-memo g 2 (omega (arith, good .some-table)))
+
 -- ---- what the columns hold before the first turn
--- the columns have room for all rows
+-- as laying out leaves them, with the scan costs
 pub record Starting (q : Query) (oldCosts oldOuters oldMethods : List ℕ) (c : Columns) : Type 0 where
   pub costs-room : length (memo (q .graph)) ≤ length oldCosts
   pub outers-room : length (memo (q .graph)) ≤ length oldOuters
@@ -122,9 +126,6 @@ module _ (q : Query) (sound : Sound q) {oldCosts oldOuters oldMethods : List ℕ
   abbrev rows : ℕ
   rows = length (memo (q .graph))
 
-  tables-fit : tableCount (q .graph) ≤ rows
-  tables-fit = omega (arith, start-two (q .graph), start-memo (q .graph) 2 (omega (arith, sound .graph .some-table)))
-
   costs-long : length (written oldCosts 0 (replicate rows 0)) ≡ length oldCosts
   costs-long = still-long (replicate rows 0) oldCosts refl
 
@@ -132,7 +133,7 @@ module _ (q : Query) (sound : Sound q) {oldCosts oldOuters oldMethods : List ℕ
   cost-one : (r : ℕ) → r < tableCount (q .graph) → getD (c .costs) r 0 ≡ getD (q .scans) r 0
   cost-one r l =
       ap (λ (x : List ℕ). getD x r 0) (z .costs-are)
-      ∙ written-at (q .scans) (written oldCosts 0 (replicate rows 0)) r (omega (arith, costs-long, tables-fit, sound .scan-list, z .costs-room)) (omega (arith, sound .scan-list))
+      ∙ written-at (q .scans) (written oldCosts 0 (replicate rows 0)) r (omega (arith, costs-long, tables-fit (q .graph) (sound .graph), sound .scan-list, z .costs-room)) (omega (arith, sound .scan-list))
 
   cost-more : (r : ℕ) → tableCount (q .graph) ≤ r → r < rows → getD (c .costs) r 0 ≡ 0
   cost-more r l h =
@@ -150,7 +151,7 @@ module _ (q : Query) (sound : Sound q) {oldCosts oldOuters oldMethods : List ℕ
   one-final r l =
       let e : r + 1 - 1 ≡ r = omega arith in
       let k : getD (c .costs) r 0 ≡ at (q .scans) (r + 1) = cost-one r l ∙ sym (ap (λ (x : ℕ). getD (q .scans) x 0) e) in
-      let h : r < rows = omega (arith, tables-fit) in
+      let h : r < rows = omega (arith, tables-fit (q .graph) (sound .graph)) in
       let n : size (single (r + 1)) ≡ 1 = size-pow (r + 1 - 1) in
       record {
         least = rw k (one-least q (r + 1) (record { from-one = omega arith; to-count = omega arith }));
