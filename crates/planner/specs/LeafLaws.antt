@@ -1,47 +1,16 @@
--- Whose turn it is, the log's next entry and the counts, as the code reckons them.
+-- The log's next entry and the counts, as the code reckons them.
 use mathlib.Core.Path.{_≡_, refl, sym, ap, _∙_}
 use mathlib.Core.Bool.{true, false}
 use mathlib.Core.List.{List, [], _∷_, map-append}
 use Prim.Native.Nat.{ℕ, suc, _+_, _≤_, _<_}
-use native.Mathlib.Decide.{ℕ-discrete}
 use native.Mathlib.Omega.{arith}
-use borrow.Author.Tests.{lt-ltb, le-ltb}
 use lib.ListN.{length, getD, set, take}
 use lib.Seq.{take-all, take-suc, take-suc-set, set-out}
 use Rattle.rules.specs.Refusals.{Memory}
 use Rattle.turns.specs.declared.turn.Worker.{Worker}
 use Rattle.turns.specs.declared.turn.Handed as code
 use Rattle.turns.specs.Standing.{nobody, workerAt}
-use Rattle.planner.specs.Runs.{logOf, noted, SameLog, notedIf, countIf, LogFits, whose, entriesOn, countsOf}
-
--- ---- whose turn it is
--- none of the first w workers has a pair left
-abbrev pub NoneLeft : List Worker → ℕ → Type 0
-NoneLeft workers w = (v : ℕ) → v < w → workerAt workers v .place .left ≡ false
-
--- nor has the next
-pub none-more : (workers : List Worker) (w : ℕ) → NoneLeft workers w → workerAt workers w .place .left ≡ false → NoneLeft workers (w + 1)
-none-more workers w z e v l = go (ℕ-discrete v w)
-  where
-    go : Dec (v ≡ w) → workerAt workers v .place .left ≡ false
-    go (yes i) = rw i e
-    go (no n) = z v (omega arith)
-
--- the list has an entry for the turn
-pub whose-listed : (turns : List ℕ) (at low : ℕ) → at < length turns → getD turns at 0 ≡ whose turns at low
-whose-listed turns at low l = rw (lt-ltb at (length turns) l) refl
-
--- it is used up
-pub whose-lowest : (turns : List ℕ) (at low : ℕ) → length turns ≤ at → low ≡ whose turns at low
-whose-lowest turns at low l = rw (le-ltb at (length turns) l) refl
-
--- one more entry is used
-pub entries-more : (n at : ℕ) → at < n → at + 1 ≡ entriesOn n at
-entries-more n at l = rw (lt-ltb at n l) refl
-
--- all were used
-pub entries-same : (n at : ℕ) → n ≤ at → at ≡ entriesOn n at
-entries-same n at l = rw (le-ltb at n l) refl
+use Rattle.planner.specs.Runs.{logOf, noted, SameLog, notedIf, countIf, LogFits, countsOf}
 
 -- ---- the log
 -- without room for an entry it stays

@@ -24,6 +24,7 @@ use Rattle.memo.specs.Vectors.{written}
 use Rattle.turns.specs.declared.turn.Worker.{Worker}
 use Rattle.turns.specs.declared.turn.Handed as code
 use Rattle.pairs.specs.Shares.{few}
+use Rattle.turns.specs.Whose.{LowestLeft}
 use Rattle.turns.specs.Standing.{Columns, choiceIn, Reach, nobody, workerAt, Passed, FinalRow, Final, placesOf, Standing, queuesAt}
 
 -- ---- sizes in a row, of n in all, from size 2 on
@@ -67,21 +68,6 @@ notedIf l j w p = cond (p .found) (noted l j w p) l
 
 abbrev pub countIf : ℕ → code.Handed → ℕ
 countIf j p = cond (p .found) (j + 1) j
-
--- ---- whose turn it is
--- r is the lowest of m workers with a pair left, or m
-pub record LowestLeft (workers : List Worker) (m r : ℕ) : Type 0 where
-  pub inside : r ≤ m
-  pub lower : (v : ℕ) → v < r → workerAt workers v .place .left ≡ false
-  pub left : r < m → workerAt workers r .place .left ≡ true
-
--- "Each entry of the list is one turn"; "When the list is used up, the lowest-numbered worker with a pair left has the turn"
-abbrev pub whose : List ℕ → ℕ → ℕ → ℕ
-whose turns at low = cond (ltb at (length turns)) (getD turns at 0) low
-
--- the entries used after one more turn
-abbrev pub entriesOn : ℕ → ℕ → ℕ
-entriesOn n at = cond (ltb at n) (at + 1) at
 
 -- "eight per-worker pair counts": how many each worker was handed; absent workers stand as they began
 pub record Tallied (m : ℕ) (workers : List Worker) (h : List (Hand Numbered)) : Type 0 where

@@ -28,12 +28,13 @@ use Rattle.memo.specs.Vectors.{written}
 use Rattle.turns.specs.declared.turn.Worker.{Worker}
 use Rattle.turns.specs.declared.turn.Handed as code
 use Rattle.pairs.specs.Shares.{few}
-use Rattle.pairs.specs.PlaceLaws.{start-next, start-memo}
+use Rattle.pairs.specs.PlaceLaws.{start-memo}
 use Rattle.turns.specs.Standing.{Columns, columns, choiceIn, stored, Reach, Ready, Board, nobody, workerAt, Crew, Opened, TurnTaken}
 use Rattle.turns.specs.QueueLaws.{stillMet, turn-found, turn-progress, turn-progress-none}
 use Rattle.turns.specs.StepLaws.{step-costs, step-outers, step-methods}
-use Rattle.turns.specs.StartLaws.{one-rows, Starting, final-start, reach-start, ground-at, Prepared, board-of}
-use Rattle.planner.specs.Runs.{logOf, notedIf, countIf, LowestLeft, whose, entriesOn, SameLog, LogFits, Ran, Running, SearchReady, Kept, Between, Within, Carried, SearchDone, countsOf}
+use Rattle.turns.specs.StartLaws.{tables-fit, Starting, final-start, reach-start, ground-at, Prepared, board-of}
+use Rattle.turns.specs.Whose.{LowestLeft, whose, entriesOn}
+use Rattle.planner.specs.Runs.{logOf, notedIf, countIf, SameLog, LogFits, Ran, Running, SearchReady, Kept, Between, Within, Carried, SearchDone, countsOf}
 use Rattle.planner.specs.RunLaws.{running-listed-some, running-lowest, running-listed-none, ran-start, running-open, pairs-few, running-closed, ran-sizes, ran-rows, ran-counts}
 
 -- ---- what is spare stays
@@ -223,7 +224,7 @@ logged-lengths {q} {h} {lent} {log} z f = (column (λ (x : Hand Numbered). x .wo
 -- ---- the whole
 module _ {q : Query} {m : ℕ} {turns sets estimates cells : List ℕ} {c : Columns} {log : Memory} (z : SearchReady q m turns sets estimates cells c log) where
   scans-short : length (q .scans) ≤ length (memo (q .graph))
-  scans-short = omega (arith, z .sound .scan-list, one-rows (q .graph) .0, start-next (q .graph) 1 (omega arith), start-memo (q .graph) 2 (omega (arith, z .sound .graph .some-table)))
+  scans-short = omega (arith, z .sound .scan-list, tables-fit (q .graph) (z .sound .graph))
 
   -- the scan costs have room
   pub scans-fit : length (q .scans) ≤ length (c .costs)

@@ -15,7 +15,6 @@ use search::search;
 
 pub mod log;
 pub mod search;
-pub mod whose;
 
 // "The answer gives best cost, number of memo rows, of skip cells, of joinable pairs, and eight per-worker pair counts"; a refusal
 // gives number and place, and zeros.

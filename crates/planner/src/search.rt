@@ -1,19 +1,18 @@
 // The turns in a row, size after size.
 ghost use mathlib.Core.Path.{_≡_};
 ghost use Rattle.query.specs.Lists.{queryOf};
-ghost use Rattle.turns.specs.Standing.{columns, nobody};
+ghost use Rattle.turns.specs.Standing.{columns};
 ghost use Rattle.planner.specs.Runs.{logOf, SearchReady, SearchDone, countsOf};
 use super::log::note;
-use super::whose::entries_on;
-use super::whose::lowest;
-use super::whose::whose_turn;
 use memo::columns::lay_starts;
-use pairs::places::nowhere;
-use pairs::shares::Share;
 use rules::Scheme;
 use turns::open::open;
 use turns::scans::lay_scans;
 use turns::turn::Worker;
+use turns::whose::entries_on;
+use turns::whose::lowest;
+use turns::whose::whose_turn;
+use turns::turn::nobody;
 use turns::turn::turn;
 
 // How many pairs the turns handed, and how many to each worker.
@@ -24,25 +23,6 @@ pub struct Searched {
 
 // Room for where the rows of each size begin: sizes 0 to N + 1, of at most 16 tables.
 const SIZES: usize = 18;
-
-fn nobody() -> Worker
-    ensures { λ r. ⌜ r ≡ nobody ⌝ }
-{
-    let share = Share {
-        scheme: Scheme::CutCandidates,
-        workers: 0,
-        worker: 0,
-        total: 0,
-        from: 0,
-        to: 0,
-    };
-    Worker {
-        share: share,
-        place: nowhere(0),
-        last: 0,
-        handed: 0,
-    }
-}
 
 // How many pairs each of eight workers was handed.
 fn counts_of(workers: [Worker; 8]) -> [u64; 8]

@@ -37,28 +37,8 @@ use Rattle.turns.specs.StandingLaws.{standing-open, standing-turn, standing-clo
 use Rattle.turns.specs.QueueLaws.{waits-inside, stillMet, turn-progress, turn-progress-none}
 use Rattle.turns.specs.StepLaws.{set-at, driving-inside, inner-inside}
 use Rattle.turns.specs.StartLaws.{tables-fit, Starting, final-start, reach-start, ground-of, Prepared, estimated-of, board-of}
-use Rattle.rounds.specs.Rounds.{Printable, Shown, LowestLeft, whose, entriesOn, Listed, Between, Within, Started}
-
--- one more worker has no pair left
-pub lower-more : (workers : List Worker) (w : ℕ) → ((v : ℕ) → v < w → workerAt workers v .place .left ≡ false) → workerAt workers w .place .left ≡ false → (v : ℕ) → v < w + 1 → workerAt workers v .place .left ≡ false
-lower-more workers w h e v l = go (decLt v w)
-  where
-    go : Dec (v < w) → workerAt workers v .place .left ≡ false
-    go (yes u) = h v u
-    go (no n) = let f : v ≡ w = omega arith in rw f e
-
--- whose turn it is, and how many entries are used up then
-pub whose-listed : (turns : List ℕ) (used low : ℕ) → used < length turns → getD turns used 0 ≡ whose turns used low
-whose-listed turns used low l = rw (lt-ltb used (length turns) l)
-
-pub whose-lowest : (turns : List ℕ) (used low : ℕ) → length turns ≤ used → low ≡ whose turns used low
-whose-lowest turns used low l = rw (le-ltb used (length turns) l)
-
-pub entries-more : (count used : ℕ) → used < count → used + 1 ≡ entriesOn count used
-entries-more count used l = rw (lt-ltb used count l)
-
-pub entries-same : (count used : ℕ) → count ≤ used → used ≡ entriesOn count used
-entries-same count used l = rw (le-ltb used count l)
+use Rattle.turns.specs.Whose.{LowestLeft, whose, entriesOn}
+use Rattle.rounds.specs.Rounds.{Printable, Shown, Listed, Between, Within, Started}
 
 -- whoever has the turn is one of the workers
 pub whose-known : {m : ℕ} {turns : List ℕ} (used low : ℕ) {w : ℕ} → Listed m turns → low < m → w ≡ whose turns used low → w < m
@@ -162,7 +142,7 @@ module _ {q : Query} {sets estimates cells starts cellStarts : List ℕ} (p : Pr
       }
 
       -- and uses up an entry of the list, or passes a candidate of the lowest worker
-      pub turned-less : (used low : ℕ) {used′ : ℕ} → LowestLeft m workers low → low < m → w ≡ whose turns used low → used′ ≡ entriesOn (length turns) used
+      pub turned-less : (used low : ℕ) {used′ : ℕ} → LowestLeft workers m low → low < m → w ≡ whose turns used low → used′ ≡ entriesOn (length turns) used
           → length turns - used′ + stillMet (q .graph) s m workers′ < length turns - used + stillMet (q .graph) s m workers
       turned-less used low {used′} n k e f = go (true-or-false (ltb used (length turns)))
         where
@@ -182,7 +162,7 @@ module _ {q : Query} {sets estimates cells starts cellStarts : List ℕ} (p : Pr
               omega (arith, fewer (rw h at (n .left k)))
 
     -- it ends where no worker has a pair left
-    pub closed-between : {low : ℕ} → LowestLeft m workers low → m ≤ low → Between q m (s + 1) workers c
+    pub closed-between : {low : ℕ} → LowestLeft workers m low → m ≤ low → Between q m (s + 1) workers c
     closed-between {low} n e = record {
       reach = z .reach;
       final = standing-closed q (p .sound) (z .scheme) m s two known workers c (crew .some) (z .standing) (λ w l. n .lower w (omega arith));

@@ -23,20 +23,6 @@ pub record Shown (sets : List ℕ) (v : Worker) : Type 0 where
   pub driving : v .place .left ≡ true → (v .place .row < length sets) × Printable (getD sets (v .place .row) 0)
   pub inner : v .place .left ≡ true → (v .place .inner < length sets) × Printable (getD sets (v .place .inner) 0)
 
--- "the lowest-numbered worker with a pair left", or m
-pub record LowestLeft (m : ℕ) (workers : List Worker) (w : ℕ) : Type 0 where
-  pub inside : w ≤ m
-  pub left : w < m → workerAt workers w .place .left ≡ true
-  pub lower : (v : ℕ) → v < w → workerAt workers v .place .left ≡ false
-
--- "Each entry of the list is one turn": the worker that entry `used` names, or, where the list is used up, the lowest one
-abbrev pub whose : List ℕ → ℕ → ℕ → ℕ
-whose turns used low = cond (ltb used (length turns)) (getD turns used 0) low
-
--- how many entries are used up after one more turn
-abbrev pub entriesOn : ℕ → ℕ → ℕ
-entriesOn count used = cond (ltb used count) (used + 1) used
-
 -- workers and a list of turns that the checks let pass
 pub record Listed (m : ℕ) (turns : List ℕ) : Type 0 where
   pub some : 1 ≤ m

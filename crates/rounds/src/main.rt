@@ -2,7 +2,6 @@
 // What it must print was worked out from document 01 apart from this code, and stands in `stdout`.
 use memo::columns::lay_starts;
 use memo::layout::lay_out;
-use pairs::places::nowhere;
 use pairs::shares::Share;
 use query::refusals::check;
 use rules::NewScheme;
@@ -13,16 +12,20 @@ use turns::open::open;
 use turns::scans::lay_scans;
 use turns::turn::Handed;
 use turns::turn::Worker;
+use turns::turn::nobody;
 use turns::turn::turn;
+use turns::whose::entries_on;
+use turns::whose::lowest;
+use turns::whose::whose_turn;
 ghost use mathlib.Core.Path.{_≡_};
 ghost use mathlib.Core.Bool.{true};
 ghost use Prim.Native.Nat.{ℕ, _+_, _≤_, _<_};
 ghost use lib.ListN.{length};
 ghost use Rattle.rules.specs.Limits.{maxWorkers};
 ghost use Rattle.query.specs.Lists.{queryOf};
-ghost use Rattle.turns.specs.Standing.{columns, nobody, workerAt};
+ghost use Rattle.turns.specs.Standing.{columns, workerAt};
 ghost use Rattle.turns.specs.StartLaws.{Prepared};
-ghost use Rattle.rounds.specs.Rounds.{Printable, Shown, LowestLeft, whose, entriesOn, Listed, Between, Within, Started};
+ghost use Rattle.rounds.specs.Rounds.{Printable, Shown, Listed, Between, Within, Started};
 
 const STDOUT: i32 = 1;
 
@@ -135,43 +138,6 @@ fn print_size(sets: &[u64], s: usize, scheme: Scheme, workers: [Worker; 8], coun
     print_places(sets, workers, count);
 }
 
-// "The lowest-numbered worker with a pair left", or `count`.
-fn lowest(workers: [Worker; 8], count: usize) -> usize
-    requires { ⌜ count ≤ maxWorkers ⌝ }
-    ensures { λ r. ⌜ LowestLeft count workers r ⌝ }
-{
-    let mut w = 0;
-    while w < count {
-        let worker = workers[w];
-        let place = worker.place;
-        if place.left {
-            return w;
-        }
-        w += 1;
-    }
-    w
-}
-
-// The worker that entry `used` of the list names, or, where the list is used up, `low`.
-fn whose(turns: &[u64], used: usize, low: usize) -> usize
-    ensures { λ r. ⌜ r ≡ whose (now (turns .entry)) used low ⌝ }
-{
-    if used < turns.len() {
-        return turns[used] as usize;
-    }
-    low
-}
-
-// How many of `count` entries are used up after one more turn.
-fn entries_on(count: usize, used: usize) -> usize
-    ensures { λ r. ⌜ r ≡ entriesOn count used ⌝ }
-{
-    if used < count {
-        return used + 1;
-    }
-    used
-}
-
 // Turns of size `s` until no worker has a pair left: first the entries of the list, then the lowest-numbered worker. The scan costs are
 // named in the promise alone.
 fn take_turns(
@@ -206,7 +172,7 @@ fn take_turns(
     let mut used = opened.used;
     let mut low = lowest(workers, count);
     while low < count {
-        let w = whose(turns, used, low);
+        let w = whose_turn(turns, used, low);
         used = entries_on(turns.len(), used);
         let turned = turn(
             rows,
@@ -238,25 +204,6 @@ fn take_turns(
     State {
         workers: workers,
         used: used,
-    }
-}
-
-// No worker yet.
-fn nobody() -> Worker
-    ensures { λ r. ⌜ r ≡ nobody ⌝ }
-{
-    Worker {
-        share: Share {
-            scheme: Scheme::CutCandidates,
-            workers: 0,
-            worker: 0,
-            total: 0,
-            from: 0,
-            to: 0,
-        },
-        place: nowhere(0),
-        last: 0,
-        handed: 0,
     }
 }
 

@@ -1,5 +1,6 @@
 -- What a turn is, how the memo stands between turns, and the theorems of a size.
 pub mod Standing
+pub mod Whose
 pub mod StandingLaws
 pub mod QueueLaws
 pub mod StepLaws

@@ -2,3 +2,4 @@
 pub mod open;
 pub mod scans;
 pub mod turn;
+pub mod whose;

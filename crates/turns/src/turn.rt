@@ -2,13 +2,15 @@
 ghost use mathlib.Core.Path.{_≡_};
 ghost use Prim.Native.Nat.{_<_};
 ghost use Rattle.rules.specs.Query.{graphOf};
-ghost use Rattle.turns.specs.Standing.{columns, Board, Ready, workerAt, noPair, StepTaken, TurnTaken};
+ghost use Rattle.turns.specs.Standing.{columns, Board, Ready, nobody, workerAt, noPair, StepTaken, TurnTaken};
 use pairs::find::next_pair;
+use pairs::places::nowhere;
 use pairs::places::Place;
 use pairs::shares::Share;
 use results::keep::keep;
 use results::price::price;
 use results::seek::seek;
+use rules::Scheme;
 
 // A worker of the table: its share of the size, its place, the memo row of its last result, how many pairs it was handed.
 pub struct Worker {
@@ -36,6 +38,26 @@ pub struct Stepped {
 pub struct Turned {
     pub workers: [Worker; 8],
     pub pair: Handed,
+}
+
+// A worker that is not there.
+pub fn nobody() -> Worker
+    ensures { λ r. ⌜ r ≡ nobody ⌝ }
+{
+    let share = Share {
+        scheme: Scheme::CutCandidates,
+        workers: 0,
+        worker: 0,
+        total: 0,
+        from: 0,
+        to: 0,
+    };
+    Worker {
+        share: share,
+        place: nowhere(0),
+        last: 0,
+        handed: 0,
+    }
 }
 
 fn no_pair() -> Handed

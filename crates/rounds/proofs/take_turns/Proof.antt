@@ -6,7 +6,8 @@ use Rattle.rules.specs.Query.{graphOf}
 use Rattle.query.specs.Lists.{queryOf}
 use Rattle.turns.specs.Standing.{columns}
 use Rattle.turns.specs.QueueLaws.{stillMet}
-use Rattle.rounds.specs.Rounds.{LowestLeft, Within}
+use Rattle.turns.specs.Whose.{LowestLeft}
+use Rattle.rounds.specs.Rounds.{Within}
 use Rattle.rounds.specs.RoundLaws.{whose-known, printable-pair, within-board, turned-within, turned-less, closed-between}
 use Rattle.rounds.proofs.take_turns.Statement.{statement}
 use Rattle.rounds.proofs.take_turns.Tie as tie
@@ -14,14 +15,14 @@ use Rattle.rounds.proofs.take_turns.Tie as tie
 abbrev Inv-loop : tie.InvT-loop
 Inv-loop rows scans left right divisors fixed outer inner result sets estimates costs₀ outers₀ methods₀ skips starts cells s count turns workers₀ used₀ low₀ costs outers methods workers used low =
     (length costs ≡ length costs₀) × (length outers ≡ length outers₀) × (length methods ≡ length methods₀)
-    × LowestLeft count workers low × Within (queryOf rows scans left right divisors fixed outer inner result) count s workers (columns costs outers methods)
+    × LowestLeft workers count low × Within (queryOf rows scans left right divisors fixed outer inner result) count s workers (columns costs outers methods)
 
 abbrev μ-loop : tie.MeasureT-loop
 μ-loop rows scans left right divisors fixed outer inner result sets estimates costs₀ outers₀ methods₀ skips starts cells s count turns workers₀ used₀ low₀ costs outers methods workers used low = length turns - used + stillMet (graphOf rows left right divisors) s count workers
 
 -- whoever has the turn is one of the workers
-known : (c : tie.After-whose Inv-loop μ-loop) → c .whose .result < c .before .before .before .before .before .before .before .before .before .before .before .before .before .before .before .before .before .before .before .before .before .before .before .args .count
-known c = let l = c .before .before .loop in whose-known (l .used) (l .low) (c .before .before .before .before .before .before .before .before .before .before .before .before .before .before .before .before .before .before .before .before .before .before .before .pre .1 .0 .2) (c .before .loop-test .taken) (c .whose .ensures)
+known : (c : tie.After-whose-turn Inv-loop μ-loop) → c .whose-turn .result < c .before .before .before .before .before .before .before .before .before .before .before .before .before .before .before .before .before .before .before .before .before .before .before .args .count
+known c = let l = c .before .before .loop in whose-known (l .used) (l .low) (c .before .before .before .before .before .before .before .before .before .before .before .before .before .before .before .before .before .before .before .before .before .before .before .pre .1 .0 .2) (c .before .loop-test .taken) (c .whose-turn .ensures)
 
 lowest-requires : tie.Need-lowest-requires Inv-loop μ-loop
 lowest-requires c κs = c .before .before .before .before .before .before .before .before .before .before .before .before .before .before .before .before .before .before .before .pre .1 .0 .2 .few-workers
@@ -29,8 +30,8 @@ lowest-requires c κs = c .before .before .before .before .before .before .befor
 loop-holds : tie.Need-loop-holds Inv-loop μ-loop
 loop-holds c = (refl, refl, refl, c .lowest .ensures, c .before .before .before .before .before .before .before .before .before .before .before .before .before .before .before .before .before .before .before .before .pre .1 .1)
 
-whose-requires : tie.Need-whose-requires Inv-loop μ-loop
-whose-requires c κs = tt
+whose-turn-requires : tie.Need-whose-turn-requires Inv-loop μ-loop
+whose-turn-requires c κs = tt
 
 entries-on-requires : tie.Need-entries-on-requires Inv-loop μ-loop
 entries-on-requires c κs = tt
@@ -55,7 +56,7 @@ loop-less : tie.Need-loop-less Inv-loop μ-loop
 loop-less c =
     let s = c .before .before .before .before .before .before .before .before .before .before .before .before .before .before .before .before .before .before .before .before .before .before .before .before .before .before .before .before .before .before .before .before .before .before .before .before .before .before in
     let l = c .before .before .before .before .before .before .before .before .before .before .before .before .before .before .before .before .before .loop in
-    turned-less (s .pre .0) (s .pre .1 .0 .2) (s .pre .1 .0 .0) (s .pre .1 .0 .1) (l .inv .4) (known (c .before .before .before .before .before .before .before .before .before .before .before .before .before .before .before)) (c .before .before .before .before .before .before .before .before .before .before .turn .ensures) (l .used) (l .low) (l .inv .3) (c .before .before .before .before .before .before .before .before .before .before .before .before .before .before .before .before .loop-test .taken) (c .before .before .before .before .before .before .before .before .before .before .before .before .before .before .before .whose .ensures) (c .before .before .before .before .before .before .before .before .before .before .before .before .before .before .entries-on .ensures)
+    turned-less (s .pre .0) (s .pre .1 .0 .2) (s .pre .1 .0 .0) (s .pre .1 .0 .1) (l .inv .4) (known (c .before .before .before .before .before .before .before .before .before .before .before .before .before .before .before)) (c .before .before .before .before .before .before .before .before .before .before .turn .ensures) (l .used) (l .low) (l .inv .3) (c .before .before .before .before .before .before .before .before .before .before .before .before .before .before .before .before .loop-test .taken) (c .before .before .before .before .before .before .before .before .before .before .before .before .before .before .before .whose-turn .ensures) (c .before .before .before .before .before .before .before .before .before .before .before .before .before .before .entries-on .ensures)
 
 loop-again : tie.Need-loop-again Inv-loop μ-loop
 loop-again c =
@@ -88,7 +89,7 @@ take-turns-spec =
     μ-loop
     lowest-requires
     loop-holds
-    whose-requires
+    whose-turn-requires
     entries-on-requires
     turn-requires
     print-pair-requires
