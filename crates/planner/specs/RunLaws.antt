@@ -33,7 +33,8 @@ use Rattle.pairs.specs.PlaceLaws.{start-memo, start-end, met-few}
 use Rattle.pairs.specs.GroundLaws.{queue-all, next-queue}
 use Rattle.results.specs.Prices.{kept}
 use Rattle.turns.specs.Standing.{Columns, choiceIn, Reach, Ready, nobody, workerAt, Crew, Opened, Handing, TurnTaken, Passed, Stood, FinalRow, Final, placesOf, Standing, queuesAt, handAt}
-use Rattle.turns.specs.StandingLaws.{choice-same, passed-joinable, standing-open, standing-turn, standing-closed}
+use Rattle.turns.specs.PassedLaws.{passed-joinable}
+use Rattle.turns.specs.StandingLaws.{choice-same, standing-open, standing-turn, standing-closed}
 use Rattle.planner.specs.Runs.{Sizing, Turning, Pairs, noted, SameLog, LogFits, Tallied, Ran, Running}
 use Rattle.turns.specs.QueueLaws.{waits-inside, turn-hand-none, turn-hand-some, some-left, empty-left, lowest-left, turn-other, same-workers, turn-pair, passed-then, then-passed, result-row, result-size, turn-pop}
 use Rattle.planner.specs.LogLaws.{logged-none, logged-more}

@@ -1,8 +1,9 @@
 -- What a turn is, how the memo stands between turns, and the theorems of a size.
 pub mod Standing
 pub mod Whose
-pub mod StandingLaws
+pub mod PassedLaws
 pub mod QueueLaws
+pub mod StandingLaws
 pub mod StepLaws
 pub mod OpenLaws
 pub mod StartLaws

@@ -32,7 +32,7 @@ use Rattle.pairs.specs.Places.{startOf, candidateAt, metAt, ownAt, Waits}
 use Rattle.pairs.specs.PlaceLaws.{in-size, memo-row}
 use Rattle.pairs.specs.GroundLaws.{at-number, next-queue, queue-here, queue-none}
 use Rattle.turns.specs.Standing.{Columns, nobody, workerAt, Crew, Handing, TurnTaken, Passed, placesOf, queuesAt, handAt}
-use Rattle.turns.specs.StandingLaws.{passed-to, passed-from}
+use Rattle.turns.specs.PassedLaws.{passed-to, passed-from}
 
 -- ---- sums
 -- one that is less at x and the same elsewhere is less

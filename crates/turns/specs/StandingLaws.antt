@@ -20,7 +20,7 @@ use Rattle.rules.specs.Trees.{price, Joinable, Least}
 use Rattle.rules.specs.Rows.{rowsOf, memo}
 use Rattle.rules.specs.Candidates.{Candidate, candidates, joinable}
 use Rattle.rules.specs.Shares.{Numbered, met, owns}
-use Rattle.rules.specs.Log.{Pair, union}
+use Rattle.rules.specs.Log.{Pair, pairOf, union}
 use Rattle.rules.specs.Checked.{Sound}
 use Rattle.rules.specs.laws.Bools.{true-or-false, and-true, and-true-l, and-true-r, not-both}
 use Rattle.rules.specs.laws.Lists.{Once, at-in}
@@ -42,7 +42,9 @@ use Rattle.pairs.specs.Places.{startOf, metAt, noCandidate, candidateAt, At, ow
 use Rattle.pairs.specs.PlaceLaws.{start-next, start-mono, start-memo, memo-row}
 use Rattle.pairs.specs.GroundLaws.{at-number}
 use Rattle.results.specs.Prices.{choiceAt, kept, OneWay, BothWays}
-use Rattle.turns.specs.Standing.{Columns, choiceIn, stored, unset, Reach, Ready, nobody, workerAt, Crew, setsOf, pairAt, Handing, StepTaken, TurnTaken, Passed, Stood, FinalRow, Final, placesOf, Standing}
+use Rattle.turns.specs.PassedLaws.{passed-joinable}
+use Rattle.turns.specs.QueueLaws.{turn-other, same-workers, passed-then, then-passed, result-row}
+use Rattle.turns.specs.Standing.{Columns, choiceIn, stored, unset, Reach, Ready, nobody, workerAt, Crew, setsOf, pairAt, Handing, StepTaken, TurnTaken, Passed, Stood, FinalRow, Final, placesOf, Standing, handAt}
 
 -- ---- rows of the memo
 once-at : (l : List ℕ) → Once l → (i j : ℕ) → i < length l → j < length l → getD l i 0 ≡ getD l j 0 → i ≡ j
@@ -76,43 +78,6 @@ module _ (g : Graph) (c : Columns) (k : Choice) (r : ℕ) where
     outer = getD-set-other (c .outers) r p (k .outer) 0 n t;
     method = getD-set-other (c .methods) r p (k .method) 0 n t;
   }
-
--- ---- pairs handed, by places
-module _ (g : Graph) (scheme : Scheme) (m s : ℕ) where
-  pub passed-joinable : (place : ℕ → ℕ) (p : Pair) → Passed g scheme m s place p → JoinablePair g p
-  unfolding mine
-  passed-joinable place p x = rw (x .is) (met-joinable g s (metAt g s (x .number)) (at-in noCandidate (met g s) (x .number) (x .inside)) (and-true-r (owns scheme (length (met g s)) m (x .worker) (metAt g s (x .number))) (joinable g (metAt g s (x .number) .candidate)) (x .own)))
-
-  -- only where each worker stands counts
-  pub passed-same : (place place′ : ℕ → ℕ) → ((v : ℕ) → place v ≡ place′ v) → (p : Pair) → Passed g scheme m s place p → Passed g scheme m s place′ p
-  passed-same place place′ e p x = record { worker = x .worker; known = x .known; number = x .number; inside = x .inside; before = omega (arith, x .before, e (x .worker)); own = x .own; is = x .is }
-
-  -- worker w goes on from candidate n, its own, to its next: the pairs handed are those before, and n's
-  module _ (place place′ : ℕ → ℕ) (w : ℕ) (known : w < m) (others : (v : ℕ) → (v ≡ w → ⊥) → place′ v ≡ place v) (inside : place w < length (met g s))
-      (own : mine g scheme m s w (metAt g s (place w)) ≡ true) (on : place w < place′ w)
-      (clear : (y : ℕ) → place w + 1 ≤ y → y < place′ w → mine g scheme m s w (metAt g s y) ≡ false) where
-    pub passed-to : (p : Pair) → Passed g scheme m s place′ p → With (Passed g scheme m s place) (setsOf (metAt g s (place w))) p
-    passed-to p x = go (ℕ-discrete (x .worker) w)
-      where
-        back : x .number < place (x .worker) → Passed g scheme m s place p
-        back l = record { worker = x .worker; known = x .known; number = x .number; inside = x .inside; before = l; own = x .own; is = x .is }
-
-        at : x .worker ≡ w → Dec (x .number < place w) → Dec (x .number ≡ place w) → With (Passed g scheme m s place) (setsOf (metAt g s (place w))) p
-        at e (yes l) d = inl (back (rw e l))
-        at e (no z) (yes f) = inr (x .is ∙ ap (λ (n : ℕ). setsOf (metAt g s n)) f)
-        at e (no z) (no f) = absurd (not-both (mine g scheme m s w (metAt g s (x .number))) (rw e at (x .own)) (clear (x .number) (omega arith) (omega (arith, x .before, ap place′ e))))
-
-        go : Dec (x .worker ≡ w) → With (Passed g scheme m s place) (setsOf (metAt g s (place w))) p
-        go (yes e) = at e (decLt (x .number) (place w)) (ℕ-discrete (x .number) (place w))
-        go (no n) = inl (back (omega (arith, x .before, others (x .worker) n)))
-
-    pub passed-from : (p : Pair) → With (Passed g scheme m s place) (setsOf (metAt g s (place w))) p → Passed g scheme m s place′ p
-    passed-from p (inl x) = record { worker = x .worker; known = x .known; number = x .number; inside = x .inside; before = go (ℕ-discrete (x .worker) w); own = x .own; is = x .is }
-      where
-        go : Dec (x .worker ≡ w) → x .number < place′ (x .worker)
-        go (yes e) = omega (arith, x .before, ap place e, ap place′ e)
-        go (no n) = omega (arith, x .before, others (x .worker) n)
-    passed-from p (inr e) = record { worker = w; known = known; number = place w; inside = inside; before = on; own = own; is = e }
 
 -- ---- what a pair offers, said by numbers and by the query
 module _ (q : Query) (X Y : ℕ) where
@@ -203,30 +168,9 @@ module _ (q : Query) (sound : Sound q) (scheme : Scheme) (m s : ℕ) (two : 2 �
   -- A TURN keeps it
   module _ (workers workers′ : List Worker) (old new : Columns) (pair : code.Handed) (w : ℕ) (worker : w < m) (reach : Reach (q .graph) old)
       (st : Standing q scheme m s workers old) (t : TurnTaken (q .graph) (q .fixed) (q .perOuter) (q .perInner) (q .perResult) s w workers workers′ old new pair) where
-    -- no other worker moves
-    other-worker : (v : ℕ) → (v ≡ w → ⊥) → workerAt workers′ v ≡ workerAt workers v
-    other-worker v n = ap (λ (l : List Worker). workerAt l v) (t .others) ∙ getD-set-other workers w v (workerAt workers′ w) nobody n
-
     -- with none left nothing changes
-    module _ (none : workerAt workers w .place .left ≡ false) where
-      same-worker : (v : ℕ) → workerAt workers′ v ≡ workerAt workers v
-      same-worker v = go (ℕ-discrete v w)
-        where
-          go : Dec (v ≡ w) → workerAt workers′ v ≡ workerAt workers v
-          go (yes e) = rw e (t .step .none none .0)
-          go (no n) = other-worker v n
-
-      turn-none : Standing q scheme m s workers′ new
-      turn-none = rw (t .step .none none .1) (record {
-        crew = record { ready = λ v l. rw (same-worker v) (st .crew .ready v l); share = λ v l. rw (same-worker v) (st .crew .share v l) };
-        smaller = st .smaller;
-        rows = λ r a b. stood-same q (passed-same (q .graph) scheme m s (placesOf workers) (placesOf workers′) (λ v. sym (there v)))
-            (passed-same (q .graph) scheme m s (placesOf workers′) (placesOf workers) there) refl refl (st .rows r a b);
-        larger = st .larger;
-      })
-        where
-          there : (v : ℕ) → placesOf workers′ v ≡ placesOf workers v
-          there v = ap (λ (x : Worker). x .place .number) (same-worker v)
+    turn-none : workerAt workers w .place .left ≡ false → Standing q scheme m s workers′ new
+    turn-none none = rw (same-workers (st .crew) worker t none, t .step .none none .1) st
 
     -- the pair at its place is handed
     module _ (left : workerAt workers w .place .left ≡ true) where
@@ -236,26 +180,14 @@ module _ (q : Query) (sound : Sound q) (scheme : Scheme) (m s : ℕ) (two : 2 �
       here : At (q .graph) s (workerAt workers w .place)
       here = st .crew .ready w worker .waits .there left .0
 
-      number : (workerAt workers w .place .number < length (met (q .graph) s)) × (metAt (q .graph) s (workerAt workers w .place .number) ≡ candidateAt (q .graph) s (workerAt workers w .place .size) (workerAt workers w .place .row) (workerAt workers w .place .inner))
-      number = at-number (q .graph) s (workerAt workers w .place) here
-
-      p : Pair
-      p = pairAt (q .graph) (workerAt workers w)
-
-      own-mine : (y : ℕ) (b : Bool) → ownAt (q .graph) s (workerAt workers w .share) y ≡ b → mine (q .graph) scheme m s w (metAt (q .graph) s y) ≡ b
-      own-mine y b e = rw (st .crew .share w worker) at e
+      abbrev p : Pair
+      p = pairOf (handAt (q .graph) s workers w)
 
       to : (p′ : Pair) → Passed (q .graph) scheme m s (placesOf workers′) p′ → With (Passed (q .graph) scheme m s (placesOf workers)) p p′
-      unfolding p
-      to p′ x = ⊎-elim (λ a. inl a) (λ e. inr (e ∙ ap setsOf (number .1))) (passed-to (q .graph) scheme m s (placesOf workers) (placesOf workers′) w worker
-          (λ v n. ap (λ (x : Worker). x .place .number) (other-worker v n)) (number .0) (own-mine _ true (st .crew .ready w worker .waits .there left .1)) (omega (arith, h .next .ahead))
-          (λ y a b. own-mine y false (h .next .clear y a b)) p′ x)
+      to = passed-then (st .crew) worker t left
 
       from : (p′ : Pair) → With (Passed (q .graph) scheme m s (placesOf workers)) p p′ → Passed (q .graph) scheme m s (placesOf workers′) p′
-      unfolding p
-      from p′ x = passed-from (q .graph) scheme m s (placesOf workers) (placesOf workers′) w worker
-          (λ v n. ap (λ (x : Worker). x .place .number) (other-worker v n)) (number .0) (own-mine _ true (st .crew .ready w worker .waits .there left .1)) (omega (arith, h .next .ahead))
-          (λ y a b. own-mine y false (h .next .clear y a b)) p′ (⊎-elim (λ a. inl a) (λ e. inr (e ∙ sym (ap setsOf (number .1)))) x)
+      from = then-passed (st .crew) worker t left
 
       -- the row that it goes to
       row-inside : h .row < length (memo (q .graph))
@@ -265,27 +197,29 @@ module _ (q : Query) (sound : Sound q) (scheme : Scheme) (m s : ℕ) (two : 2 �
       row-best r l = final-best (getD (memo (q .graph)) r 0) (choiceIn old r) (row-connected (q .graph) r (omega (arith, start-memo (q .graph) s (omega arith)))) (st .smaller r l)
 
       offers : Best (Offers q (bestAt q) p) (h .offer)
-      unfolding p
       offers =
-          let X = p .driving in
-          let Y = p .inner in
+          let X = pairAt (q .graph) (workerAt workers w) .driving in
+          let Y = pairAt (q .graph) (workerAt workers w) .inner in
           let a = at-smaller (q .graph) s (workerAt workers w .place) two here in
-          best-same (to-offers q X Y) (from-offers q X Y) (rw (row-best _ (a .0), row-best _ (a .1)) at (h .best))
+          rw (at-number (q .graph) s (workerAt workers w .place) here .1) (best-same (to-offers q X Y) (from-offers q X Y) (rw (row-best _ (a .0), row-best _ (a .1)) at (h .best)))
+
+      set-is : getD (memo (q .graph)) (h .row) 0 ≡ union p
+      unfolding h
+      set-is = result-row (st .crew) worker t left
 
       row-sound : (p′ : Pair) → Passed (q .graph) scheme m s (placesOf workers) p′ → JoinablePair (q .graph) p′
       row-sound = passed-joinable (q .graph) scheme m s (placesOf workers)
 
       turn-row : (r : ℕ) → startOf (q .graph) s ≤ r → r < startOf (q .graph) (s + 1) → Dec (r ≡ h .row) → Stood q (Passed (q .graph) scheme m s (placesOf workers′)) (getD (memo (q .graph)) r 0) (choiceIn new r)
-      unfolding p
       turn-row r a b (yes e) =
           let k = kept (choiceIn old (h .row)) (h .offer) in
           let is : choiceIn new r ≡ k = ap (λ (c : Columns). choiceIn c r) (h .changed) ∙ ap (choiceIn (stored old (h .row) k)) e ∙ choice-same (q .graph) old k (h .row) reach row-inside in
-          let set : getD (memo (q .graph)) r 0 ≡ union p = ap (λ (i : ℕ). getD (memo (q .graph)) i 0) e ∙ h .row-set in
-          stood-same q from to set is (inr (stood-turn q (Passed (q .graph) scheme m s (placesOf workers)) row-sound p (rw (h .row-set) at (st .rows (h .row) (h .row-from) (h .row-to))) offers))
+          let set : getD (memo (q .graph)) r 0 ≡ union p = ap (λ (i : ℕ). getD (memo (q .graph)) i 0) e ∙ set-is in
+          stood-same q from to set is (inr (stood-turn q (Passed (q .graph) scheme m s (placesOf workers)) row-sound p (rw set-is at (st .rows (h .row) (h .row-from) (h .row-to))) offers))
       turn-row r a b (no n) =
           let k = kept (choiceIn old (h .row)) (h .offer) in
           let is : choiceIn new r ≡ choiceIn old r = ap (λ (c : Columns). choiceIn c r) (h .changed) ∙ choice-other (q .graph) old k (h .row) r n in
-          let apart : union p ≡ getD (memo (q .graph)) r 0 → ⊥ = λ e. n (once-at (memo (q .graph)) (memo-once (q .graph)) r (h .row) (omega (arith, start-memo (q .graph) (s + 1) (omega arith))) row-inside (sym e ∙ sym (h .row-set))) in
+          let apart : union p ≡ getD (memo (q .graph)) r 0 → ⊥ = λ e. n (once-at (memo (q .graph)) (memo-once (q .graph)) r (h .row) (omega (arith, start-memo (q .graph) (s + 1) (omega arith))) row-inside (sym e ∙ sym set-is)) in
           stood-same q from to refl is (stood-other q (Passed (q .graph) scheme m s (placesOf workers)) row-sound p apart (st .rows r a b))
 
       -- rows of other sizes
@@ -307,11 +241,11 @@ module _ (q : Query) (sound : Sound q) (scheme : Scheme) (m s : ℕ) (two : 2 �
         where
           ready : (v : ℕ) → v < m → Dec (v ≡ w) → Ready (q .graph) s (workerAt workers′ v)
           ready v l (yes e) = rw e turn-ready
-          ready v l (no n) = rw (other-worker v n) (st .crew .ready v l)
+          ready v l (no n) = rw (turn-other (st .crew) worker t v n) (st .crew .ready v l)
 
           share : (v : ℕ) → v < m → Dec (v ≡ w) → workerAt workers′ v .share ≡ shareOf scheme m v (length (met (q .graph) s))
           share v l (yes e) = rw e (turn-share ∙ st .crew .share w worker)
-          share v l (no n) = ap (λ (x : Worker). x .share) (other-worker v n) ∙ st .crew .share v l
+          share v l (no n) = ap (λ (x : Worker). x .share) (turn-other (st .crew) worker t v n) ∙ st .crew .share v l
 
       turn-some : Standing q scheme m s workers′ new
       turn-some = record {
