@@ -13,18 +13,17 @@ use lib.ListN.{length, getD, length-take}
 use Rattle.rules.specs.Query.{Graph, tableCount}
 use Rattle.rules.specs.Checked.{GoodGraph}
 use Rattle.rules.specs.Rows.{rowsOf, memo}
-use Rattle.rules.specs.Shares.{met}
 use Rattle.rules.specs.laws.Bools.{not-both}
 use Rattle.pairs.specs.declared.places.Place.{Place}
 use Rattle.pairs.specs.declared.shares.Share.{Share}
 use Rattle.pairs.specs.declared.shares.Span.{Span}
-use Rattle.pairs.specs.Shares.{few, ShareFits, ShareOf, spanOf, onSpan, inSpan}
+use Rattle.pairs.specs.Shares.{few, ShareOf, spanOf, onSpan, inSpan}
 use Rattle.pairs.specs.Joinable.{isJoinable}
 use Rattle.pairs.specs.Places.{startOf, cellOf, firstOf, firstRow, endRow, aheadOf, ownAt, rowsIn, countAt, countTo, Ground, SpanCells, Along, RowFrom, At, nowhere, NextFrom}
 use Rattle.pairs.specs.PlaceLaws.{start-next, start-mono, start-memo, ahead-row, ahead-size, ahead-zero, ahead-end, first-from, first-le, memo-few, memo-inside, ahead-met, met-few}
-use Rattle.pairs.specs.SpanLaws.{span-true, share-total, share-fits, Lies, span-lies, on-lies, on-after}
+use Rattle.pairs.specs.SpanLaws.{span-true, share-total, share-fits, Lies, span-lies, on-lies}
 use Rattle.pairs.specs.LeafLaws.{Walked, walked-found}
-use Rattle.pairs.specs.GroundLaws.{ground-set, ground-cells, own-at, not-own, own-on, not-on, at-number}
+use Rattle.pairs.specs.GroundLaws.{ground-set, ground-cells, own-at, not-own, own-on, not-on}
 
 -- the worker may join none of the candidates x to y
 abbrev pub Clear : Graph → ℕ → Share → ℕ → ℕ → Type 0

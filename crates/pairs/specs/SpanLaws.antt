@@ -284,7 +284,3 @@ module _ (h : Share) (z : ShareFits h) where
   -- what is left of it after its own inner row j
   pub on-lies : (x j end : ℕ) → j < end → end ≤ few → Lies (j + 1) end (onSpan h x j end)
   on-lies = on-by-lies (h .scheme)
-
-  -- nothing of that lies at or before j
-  pub on-after : (x j end p : ℕ) → j < end → end ≤ few → inSpan (onSpan h x j end) p ≡ true → j < p
-  on-after x j end p l u t = omega (arith, on-lies x j end l u .after, span-true (onSpan h x j end) p t .0)

@@ -4,7 +4,7 @@ use mathlib.Core.Bool.{true, false}
 use mathlib.Core.List.{List, [], _∷_, map-append}
 use Prim.Native.Nat.{ℕ, suc, _+_, _≤_, _<_}
 use native.Mathlib.Omega.{arith}
-use lib.ListN.{length, getD, set, take}
+use lib.ListN.{length, set, take}
 use lib.Seq.{take-all, take-suc, take-suc-set, set-out}
 use Rattle.rules.specs.Refusals.{Memory}
 use Rattle.turns.specs.declared.turn.Worker.{Worker}

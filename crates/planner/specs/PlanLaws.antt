@@ -8,23 +8,21 @@ use native.Mathlib.Omega.{arith}
 use lib.Count.{ones-step}
 use lib.Dec.{eqb, ltb}
 use lib.Pow.{pow-pos}
-use lib.ListN.{length, getD, take, drop, replicate, length-replicate}
+use lib.ListN.{length, getD, replicate, length-replicate}
 use borrow.Author.Tests.{eq-eqb, ne-eqb}
 use Rattle.rules.specs.declared.Scheme.{Scheme}
 use Rattle.rules.specs.declared.NewScheme.the-variants.{Good}
 use Rattle.rules.specs.declared.Verdict.{Verdict}
 use Rattle.rules.specs.Kinds.{schemeOf}
-use Rattle.rules.specs.Lists.{over, inRow}
 use Rattle.rules.specs.Sets.{size, full}
-use Rattle.rules.specs.Query.{Graph, Query, tableCount}
+use Rattle.rules.specs.Query.{Graph, tableCount}
 use Rattle.rules.specs.Connected.{Connected}
 use Rattle.rules.specs.Estimate.{estimate}
-use Rattle.rules.specs.Trees.{Least}
 use Rattle.rules.specs.Rows.{rowsOf, memo}
 use Rattle.rules.specs.Skips.{skips}
-use Rattle.rules.specs.Refusals.{Memory, Input, none, refuse, firstOf, checksOf, checks, rooms, verdict, memoLengths, logLengths}
+use Rattle.rules.specs.Refusals.{Memory, Input, refuse, firstOf, checksOf, checks, rooms, verdict, memoLengths, logLengths}
 use Rattle.rules.specs.Checked.{GoodGraph, Checked}
-use Rattle.rules.specs.Answers.{each, Spared, refusal, Refused, Filled, Logged, Counted, Given, Planned}
+use Rattle.rules.specs.Answers.{each, Spared, refusal, Filled, Logged, Counted, Planned}
 use Rattle.rules.specs.laws.Lists.{at-in, length-map}
 use Rattle.rules.specs.laws.Rows.{rows-only, rows-all, below-all}
 use Rattle.rules.specs.laws.Sets.{size-zero, full-only}
@@ -32,14 +30,14 @@ use Rattle.rules.specs.laws.Refusals.{checked}
 use Rattle.memo.specs.declared.layout.Laid.{Laid}
 use Rattle.memo.specs.Vectors.{written}
 use Rattle.memo.specs.Layout.{Lent, lentOf, OneLength, Room, laid, counts, refused, LaidOut}
-use Rattle.memo.specs.LayoutLaws.{laid-verdict, written-over, front, one-length}
+use Rattle.memo.specs.LayoutLaws.{laid-verdict, written-over, front}
 use Rattle.turns.specs.Standing.{columns}
 use Rattle.turns.specs.StartLaws.{estimated-of}
 use Rattle.pairs.specs.Places.{startOf}
 use Rattle.pairs.specs.PlaceLaws.{start-next, start-end, in-size, memo-row, memo-few}
 use Rattle.pairs.specs.Shares.{few}
 use Rattle.planner.specs.declared.Answer.{Answer}
-use Rattle.planner.specs.Runs.{logOf, LogFits, SearchReady, SearchDone}
+use Rattle.planner.specs.Runs.{logOf, SearchReady, SearchDone}
 use Rattle.planner.specs.SearchLaws.{spared-written, spared-on, laid-length}
 use Rattle.planner.specs.Plans.{answerOf, outcomeOf, refusedWith}
 

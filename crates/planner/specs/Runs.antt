@@ -1,9 +1,8 @@
 -- The turns in a row: what holds between two sizes, and between two turns of a size.
 use mathlib.Core.Path.{_≡_}
-use mathlib.Core.Bool.{true, false, cond}
+use mathlib.Core.Bool.{cond}
 use mathlib.Core.List.{List, [], _++_, map}
 use Prim.Native.Nat.{ℕ, suc, _+_, _-_, _*_, _≤_, _<_}
-use lib.Dec.{ltb}
 use lib.ListN.{length, getD, take, drop, set, replicate}
 use Rattle.rules.specs.Limits.{maxWorkers}
 use Rattle.rules.specs.declared.Scheme.{Scheme}

@@ -1,12 +1,11 @@
 -- The search as a loop over sizes and, in each, over turns.
-use mathlib.Core.Path.{_≡_, refl, sym, ap, _∙_, subst}
+use mathlib.Core.Path.{_≡_, refl, sym, ap, _∙_}
 use mathlib.Core.Logic.{_⊎_, inl, inr, ⊎-elim}
-use mathlib.Core.Bool.{true, false, cond}
+use mathlib.Core.Bool.{true, false}
 use mathlib.Core.List.{List, [], _∷_, map}
 use Prim.Native.Nat.{ℕ, zero, suc, _+_, _-_, _*_, _^_, _≤_, _<_}
 use native.Mathlib.Decide.{decLt}
 use native.Mathlib.Omega.{arith}
-use lib.Dec.{ltb}
 use lib.ListN.{length, getD, set, length-set, length-take, replicate, length-replicate}
 use lib.Seq.{drop-set-lt}
 use borrow.Author.Tests.{lt-ltb, le-ltb}
@@ -29,12 +28,12 @@ use Rattle.turns.specs.declared.turn.Worker.{Worker}
 use Rattle.turns.specs.declared.turn.Handed as code
 use Rattle.pairs.specs.Shares.{few}
 use Rattle.pairs.specs.PlaceLaws.{start-memo}
-use Rattle.turns.specs.Standing.{Columns, columns, choiceIn, stored, Reach, Ready, Board, nobody, workerAt, Crew, Opened, TurnTaken}
+use Rattle.turns.specs.Standing.{Columns, columns, Reach, Ready, Board, nobody, workerAt, Crew, Opened, TurnTaken}
 use Rattle.turns.specs.QueueLaws.{stillMet, turn-found, turn-progress, turn-progress-none}
 use Rattle.turns.specs.StepLaws.{step-costs, step-outers, step-methods}
 use Rattle.turns.specs.StartLaws.{tables-fit, Starting, final-start, reach-start, ground-at, Prepared, board-of}
 use Rattle.turns.specs.Whose.{LowestLeft, whose, entriesOn}
-use Rattle.planner.specs.Runs.{logOf, notedIf, countIf, SameLog, LogFits, Ran, Running, SearchReady, Kept, Between, Within, Carried, SearchDone, countsOf}
+use Rattle.planner.specs.Runs.{notedIf, countIf, LogFits, Running, SearchReady, Kept, Between, Within, Carried, SearchDone, countsOf}
 use Rattle.planner.specs.RunLaws.{running-listed-some, running-lowest, running-listed-none, ran-start, running-open, pairs-few, running-closed, ran-sizes, ran-rows, ran-counts}
 
 -- ---- what is spare stays

@@ -9,11 +9,11 @@ use rules::Scheme;
 use turns::open::open;
 use turns::scans::lay_scans;
 use turns::turn::Worker;
+use turns::turn::nobody;
+use turns::turn::turn;
 use turns::whose::entries_on;
 use turns::whose::lowest;
 use turns::whose::whose_turn;
-use turns::turn::nobody;
-use turns::turn::turn;
 
 // How many pairs the turns handed, and how many to each worker.
 pub struct Searched {

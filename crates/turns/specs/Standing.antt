@@ -1,9 +1,9 @@
 -- A turn, and the state that turns go through: said on places and memo alone.
 use mathlib.Core.Path.{_≡_}
 use mathlib.Core.Logic.{_⊎_}
-use mathlib.Core.Bool.{Bool, true, false}
+use mathlib.Core.Bool.{true, false}
 use mathlib.Core.List.{List, map}
-use Prim.Native.Nat.{ℕ, suc, _+_, _-_, _*_, _≤_, _<_}
+use Prim.Native.Nat.{ℕ, _+_, _-_, _*_, _≤_, _<_}
 use lib.ListN.{length, getD, set, take, drop}
 use Rattle.rules.specs.Limits.{costBound}
 use Rattle.rules.specs.declared.Scheme.{Scheme}

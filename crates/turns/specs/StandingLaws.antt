@@ -1,9 +1,9 @@
 -- Opening a size, each turn and closing it: how the memo stands after them.
 use mathlib.Core.Path.{_≡_, refl, sym, ap, _∙_, subst}
 use mathlib.Core.Logic.{_⊎_, inl, inr, ⊎-elim}
-use mathlib.Core.Bool.{Bool, true, false, _&&_}
+use mathlib.Core.Bool.{true, false}
 use mathlib.Core.List.{List, [], _∷_, List·Memᴰ, List·Memᴰ·head, List·Memᴰ·tail}
-use Prim.Native.Nat.{ℕ, zero, suc, _+_, _-_, _*_, _/_, _≤_, _<_}
+use Prim.Native.Nat.{ℕ, zero, suc, _+_, _-_, _≤_, _<_}
 use native.Mathlib.Nat.{add-comm}
 use native.Mathlib.Decide.{decLt, ℕ-discrete}
 use native.Mathlib.Omega.{arith}
@@ -11,40 +11,38 @@ use lib.ListN.{length, getD, set}
 use lib.Seq.{getD-set-same, getD-set-other}
 use borrow.Author.Tests.{ne-eqb}
 use Rattle.rules.specs.declared.Scheme.{Scheme}
-use Rattle.rules.specs.Limits.{costBound}
 use Rattle.rules.specs.Sets.{size, single}
-use Rattle.rules.specs.Query.{Graph, Query, IsMethod, tableCount}
+use Rattle.rules.specs.Query.{Graph, Query, tableCount}
 use Rattle.rules.specs.Connected.{Connected}
 use Rattle.rules.specs.Estimate.{estimate}
-use Rattle.rules.specs.Trees.{price, Joinable, Least}
+use Rattle.rules.specs.Trees.{price, Joinable}
 use Rattle.rules.specs.Rows.{rowsOf, memo}
 use Rattle.rules.specs.Candidates.{Candidate, candidates, joinable}
 use Rattle.rules.specs.Shares.{Numbered, met, owns}
 use Rattle.rules.specs.Log.{Pair, pairOf, union}
 use Rattle.rules.specs.Checked.{Sound}
-use Rattle.rules.specs.laws.Bools.{true-or-false, and-true, and-true-l, and-true-r, not-both}
+use Rattle.rules.specs.laws.Bools.{true-or-false, and-true, not-both}
 use Rattle.rules.specs.laws.Lists.{Once, at-in}
 use Rattle.rules.specs.laws.Choice.{Choice, NoLater, Best, best-same}
 use Rattle.rules.specs.laws.Candidates.{Has, numbered-in}
 use Rattle.rules.specs.laws.Connected.{joinable-sym, connected-split, connected-single}
 use Rattle.rules.specs.laws.Bellman.{least-unique, bellman-least, bellman-pick}
-use Rattle.rules.specs.laws.Handed.{JoinablePair, With, Complete, Priced, Offers, Handed, handed-same, row-first, row-keep, row-take, row-other, row-final}
+use Rattle.rules.specs.laws.Handed.{JoinablePair, With, Complete, Offers, Handed, handed-same, row-first, row-keep, row-take, row-other, row-final}
 use Rattle.rules.specs.laws.Reference.{better, better-first, better-one}
 use Rattle.rules.specs.laws.Rows.{memo-only, memo-once, rows-only}
-use Rattle.rules.specs.laws.Estimate.{least-below}
-use Rattle.rules.specs.laws.Complete.{mine, met-joinable, pair-met, met-one, true-joinable}
-use Rattle.rules.specs.laws.Outcome.{bestAt, best-least, method-one}
+use Rattle.rules.specs.laws.Complete.{mine, pair-met, met-one, true-joinable}
+use Rattle.rules.specs.laws.Outcome.{bestAt, best-least}
 use Rattle.turns.specs.declared.turn.Worker.{Worker}
 use Rattle.pairs.specs.declared.places.Place.{Place}
 use Rattle.turns.specs.declared.turn.Handed as code
-use Rattle.pairs.specs.Shares.{few, ShareOf, shareOf}
-use Rattle.pairs.specs.Places.{startOf, metAt, noCandidate, candidateAt, At, ownAt, nowhere, Waits, NextFrom}
+use Rattle.pairs.specs.Shares.{shareOf}
+use Rattle.pairs.specs.Places.{startOf, metAt, noCandidate, At, ownAt, NextFrom}
 use Rattle.pairs.specs.PlaceLaws.{start-next, start-mono, start-memo, memo-row}
 use Rattle.pairs.specs.GroundLaws.{at-number}
-use Rattle.results.specs.Prices.{choiceAt, kept, OneWay, BothWays}
+use Rattle.results.specs.Prices.{kept, BothWays}
 use Rattle.turns.specs.PassedLaws.{passed-joinable}
 use Rattle.turns.specs.QueueLaws.{turn-other, same-workers, passed-then, then-passed, result-row}
-use Rattle.turns.specs.Standing.{Columns, choiceIn, stored, unset, Reach, Ready, nobody, workerAt, Crew, setsOf, pairAt, Handing, StepTaken, TurnTaken, Passed, Stood, FinalRow, Final, placesOf, Standing, handAt}
+use Rattle.turns.specs.Standing.{Columns, choiceIn, stored, Reach, Ready, workerAt, Crew, pairAt, Handing, TurnTaken, Passed, Stood, FinalRow, Final, placesOf, Standing, handAt}
 
 -- ---- rows of the memo
 once-at : (l : List ℕ) → Once l → (i j : ℕ) → i < length l → j < length l → getD l i 0 ≡ getD l j 0 → i ≡ j
@@ -145,10 +143,6 @@ module _ (q : Query) (sound : Sound q) (scheme : Scheme) (m s : ℕ) (two : 2 �
   -- smaller sizes hold what the search computes
   final-best : (S : ℕ) (k : Choice) → Connected (q .graph) S → FinalRow q S k → k .cost ≡ bestAt q S
   final-best S k c f = least-unique (f .least) (best-least q sound S c)
-
-  -- and nothing in them is too large to be priced
-  pub final-below : (S : ℕ) (k : Choice) → FinalRow q S k → k .cost < costBound
-  final-below S k f = least-below q sound S (k .cost) (f .least)
 
   -- OPENING: where all smaller sizes are final and each worker is at its first joinable pair, the size stands
   pub standing-open : (workers : List Worker) (c : Columns) → Final q s c → Crew (q .graph) s scheme m workers

@@ -3,7 +3,7 @@ use mathlib.Core.Path.{_≡_, refl, sym, ap, _∙_}
 use mathlib.Core.Logic.{⊎-elim}
 use mathlib.Core.Bool.{true}
 use mathlib.Core.List.{List, map}
-use Prim.Native.Nat.{ℕ, _+_, _-_, _/_, _^_, _≤_, _<_}
+use Prim.Native.Nat.{ℕ, _+_, _-_, _^_, _≤_, _<_}
 use native.Mathlib.Omega.{arith}
 use lib.ListN.{length, getD, set, length-take, length-set}
 use lib.Pow.{pow-mono}
@@ -16,7 +16,7 @@ use Rattle.rules.specs.Estimate.{estimate}
 use Rattle.rules.specs.Rows.{rowsOf, memo}
 use Rattle.rules.specs.Candidates.{joinable}
 use Rattle.rules.specs.Shares.{met, owns}
-use Rattle.rules.specs.Log.{Pair, union}
+use Rattle.rules.specs.Log.{union}
 use Rattle.rules.specs.laws.Bools.{true-or-false, and-true-r}
 use Rattle.rules.specs.laws.Lists.{at-in, at-map, length-map}
 use Rattle.rules.specs.laws.Sets.{splits-size}
@@ -34,7 +34,6 @@ use Rattle.memo.specs.LayoutLaws.{rows-part}
 use Rattle.turns.specs.declared.turn.Worker.{Worker}
 use Rattle.turns.specs.declared.turn.Handed as code
 use Rattle.pairs.specs.declared.places.Place.{Place}
-use Rattle.pairs.specs.Shares.{few}
 use Rattle.pairs.specs.Places.{startOf, metAt, noCandidate, At, NextFrom}
 use Rattle.pairs.specs.PlaceLaws.{start-mono, start-memo, first-from, memo-row, in-size}
 use Rattle.pairs.specs.GroundLaws.{ground-set, at-number}

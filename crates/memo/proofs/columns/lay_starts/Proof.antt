@@ -1,10 +1,9 @@
 use mathlib.Core.Path.{_≡_, refl, sym, ap, _∙_}
-use Prim.Native.Nat.{ℕ, _+_, _-_, _*_, _≤_}
+use Prim.Native.Nat.{_+_, _-_, _*_, _≤_}
 use native.Mathlib.Nat.{mul-le-mul}
 use native.Mathlib.Omega.{arith}
 use lib.ListN.{length, set, length-set}
-use Rattle.rules.specs.Query.{Graph, graphOf}
-use Rattle.rules.specs.Rows.{rowsOf}
+use Rattle.rules.specs.Query.{graphOf}
 use Rattle.memo.specs.Walk.{upTo}
 use Rattle.memo.specs.WalkLaws.{upTo-none, length-more, rows-fit}
 use Rattle.memo.specs.Vectors.{written}
