@@ -7,3 +7,4 @@ pub mod StandingLaws
 pub mod StepLaws
 pub mod OpenLaws
 pub mod StartLaws
+pub mod UniqueLaws

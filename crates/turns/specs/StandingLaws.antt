@@ -45,7 +45,7 @@ use Rattle.turns.specs.QueueLaws.{turn-other, same-workers, passed-then,
 use Rattle.turns.specs.Standing.{Columns, choiceIn, stored, Reach, Ready, workerAt, Crew, pairAt, Handing, TurnTaken, Passed, Stood, FinalRow, Final, placesOf, Standing, handAt}
 
 -- ---- rows of the memo
-once-at : (l : List ℕ) → Once l → (i j : ℕ) → i < length l → j < length l → getD l i 0 ≡ getD l j 0 → i ≡ j
+pub once-at : (l : List ℕ) → Once l → (i j : ℕ) → i < length l → j < length l → getD l i 0 ≡ getD l j 0 → i ≡ j
 unfolding Once
 once-at [] o i j a b e = absurd (omega arith)
 once-at (x ∷ l) o zero zero a b e = refl
