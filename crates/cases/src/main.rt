@@ -5,6 +5,7 @@ use planner::Answer;
 use planner::plan;
 use sets::has_table;
 use sets::size;
+use std::num::wrapping_add_usize;
 ghost use Prim.Native.Nat.{_≤_};
 
 const STDOUT: i32 = 1;
@@ -135,7 +136,7 @@ fn print_memo(
     let mut at = 0usize;
     for i in 0..count {
         let set = sets[i];
-        let end = at_most(at, CELLS) + at_most(size(set) as usize, CELLS - at_most(at, CELLS));
+        let end = at_most(wrapping_add_usize(at, size(set) as usize), CELLS);
         print_row(set, estimates[i], costs[i], outers[i], methods[i]);
         put(b":");
         print_cells(skips, at, end);
@@ -228,21 +229,64 @@ fn print_answer(answer: Answer) {
     print_counts(&counts);
 }
 
-// Plans a query in so much lent memory, and prints the answer and all of that memory.
-fn show(name: &[u8], query: Query, crew: Crew, room: Room) {
-    let rows = query.rows;
-    let scans = query.scans;
-    let left = query.left;
-    let right = query.right;
-    let divisors = query.divisors;
-    let tables = at_most(query.tables, TABLES);
-    let edges = at_most(query.edges, TABLES);
+// The answer, then what was lent: the part that planning fills, and the spare part.
+fn print_all(
+    answer: Answer,
+    sets: &[u64; 80],
+    estimates: &[u64; 80],
+    costs: &[u64; 80],
+    outers: &[u64; 80],
+    methods: &[u64; 80],
+    skips: &[u64; 400],
+    log_workers: &[u64; 8],
+    log_driving: &[u64; 8],
+    log_inner: &[u64; 8],
+    log_costs: &[u64; 8],
+    rows: usize,
+    cells: usize,
+    entries: usize,
+)
+    requires { ⌜ (rows ≤ 80) × (cells ≤ 400) × (entries ≤ 8) ⌝ }
+{
+    let filled = at_most(answer.rows as usize, rows);
+    let logged = at_most(answer.pairs as usize, entries);
+    print_answer(answer);
+    print_memo(sets, estimates, costs, outers, methods, skips, filled);
+    print_spare_rows(sets, estimates, costs, outers, methods, filled, rows);
+    put(b"spare cells");
+    print_cells(skips, answer.cells as usize, cells);
+    put(b"\n");
+    print_log(log_workers, log_driving, log_inner, log_costs, logged);
+    print_spare_log(
+        log_workers,
+        log_driving,
+        log_inner,
+        log_costs,
+        logged,
+        entries,
+    );
+}
+
+// Plans a query in so many marked rows, cells and log entries, and prints the answer and all of them.
+fn plan_in(
+    rows: &[u64],
+    scans: &[u64],
+    left: &[u64],
+    right: &[u64],
+    divisors: &[u64],
+    workers: u64,
+    scheme: u64,
+    turns: &[u64],
+    lent: usize,
+    cells: usize,
+    entries: usize,
+)
+    requires { ⌜ (lent ≤ 80) × (cells ≤ 400) × (entries ≤ 8) ⌝ }
+{
     let fixed = [5, 50];
     let outer = [1, 1];
     let inner = [2, 1];
     let result = [1, 1];
-    let turns = crew.turns;
-    let listed = at_most(crew.listed, TURNS);
     let mut sets = [MARK; 80];
     let mut estimates = [MARK; 80];
     let mut costs = [MARK; 80];
@@ -253,22 +297,19 @@ fn show(name: &[u8], query: Query, crew: Crew, room: Room) {
     let mut log_driving = [MARK; 8];
     let mut log_inner = [MARK; 8];
     let mut log_costs = [MARK; 8];
-    let lent = at_most(room.rows, ROWS);
-    let cells = at_most(room.cells, CELLS);
-    let entries = at_most(room.entries, ENTRIES);
     let answer = plan(
-        &rows[0..tables],
-        &scans[0..tables],
-        &left[0..edges],
-        &right[0..edges],
-        &divisors[0..edges],
+        rows,
+        scans,
+        left,
+        right,
+        divisors,
         &fixed,
         &outer,
         &inner,
         &result,
-        crew.workers,
-        crew.scheme,
-        &turns[0..listed],
+        workers,
+        scheme,
+        turns,
         &mut sets[0..lent],
         &mut estimates[0..lent],
         &mut costs[0..lent],
@@ -280,25 +321,49 @@ fn show(name: &[u8], query: Query, crew: Crew, room: Room) {
         &mut log_inner[0..entries],
         &mut log_costs[0..entries],
     );
-    let filled = at_most(answer.rows as usize, lent);
-    let written = at_most(answer.cells as usize, cells);
-    let logged = at_most(answer.pairs as usize, entries);
-    put(name);
-    put(b"\n");
-    print_answer(answer);
-    print_memo(&sets, &estimates, &costs, &outers, &methods, &skips, filled);
-    print_spare_rows(&sets, &estimates, &costs, &outers, &methods, filled, lent);
-    put(b"spare cells");
-    print_cells(&skips, written, cells);
-    put(b"\n");
-    print_log(&log_workers, &log_driving, &log_inner, &log_costs, logged);
-    print_spare_log(
+    print_all(
+        answer,
+        &sets,
+        &estimates,
+        &costs,
+        &outers,
+        &methods,
+        &skips,
         &log_workers,
         &log_driving,
         &log_inner,
         &log_costs,
-        logged,
+        lent,
+        cells,
         entries,
+    );
+}
+
+// A case under its name: what its query, crew and memory are, handed on in parts.
+fn show(name: &[u8], query: Query, crew: Crew, room: Room) {
+    put(name);
+    put(b"\n");
+    let rows = query.rows;
+    let scans = query.scans;
+    let left = query.left;
+    let right = query.right;
+    let divisors = query.divisors;
+    let turns = crew.turns;
+    let tables = at_most(query.tables, TABLES);
+    let edges = at_most(query.edges, TABLES);
+    let listed = at_most(crew.listed, TURNS);
+    plan_in(
+        &rows[0..tables],
+        &scans[0..tables],
+        &left[0..edges],
+        &right[0..edges],
+        &divisors[0..edges],
+        crew.workers,
+        crew.scheme,
+        &turns[0..listed],
+        at_most(room.rows, ROWS),
+        at_most(room.cells, CELLS),
+        at_most(room.entries, ENTRIES),
     );
 }
 
@@ -379,7 +444,12 @@ fn planned() {
         unlisted(1, 1),
         lend(8, 12, 6),
     );
-    show(b"C4: figure 4", figure_4(), unlisted(1, 1), lend(65, 258, 6));
+    show(
+        b"C4: figure 4",
+        figure_4(),
+        unlisted(1, 1),
+        lend(65, 258, 6),
+    );
     show(
         b"C5: two workers, scheme 3, turns 1,1",
         example(),
