@@ -14,42 +14,14 @@ const STDOUT: i32 = 1;
 const MARK: u64 = 77;
 
 // Room for the largest of these queries, figure 4, and some to spare.
-const TABLES: usize = 8;
-
 const ROWS: usize = 80;
 
 const CELLS: usize = 400;
 
 const ENTRIES: usize = 8;
 
-const TURNS: usize = 2;
-
 // One more than the largest number of a table.
 const PAST_TABLES: u64 = 17;
-
-struct Query {
-    rows: [u64; 8],
-    scans: [u64; 8],
-    left: [u64; 8],
-    right: [u64; 8],
-    divisors: [u64; 8],
-    tables: usize,
-    edges: usize,
-}
-
-struct Crew {
-    workers: u64,
-    scheme: u64,
-    turns: [u64; 2],
-    listed: usize,
-}
-
-// How many memo rows, skip cells and log entries are lent.
-struct Room {
-    rows: usize,
-    cells: usize,
-    entries: usize,
-}
 
 fn put(text: &[u8]) {
     io::write_all(STDOUT, text);
@@ -242,12 +214,13 @@ fn print_all(
     log_driving: &[u64; 8],
     log_inner: &[u64; 8],
     log_costs: &[u64; 8],
-    rows: usize,
-    cells: usize,
-    entries: usize,
-)
-    requires { ⌜ (rows ≤ 80) × (cells ≤ 400) × (entries ≤ 8) ⌝ }
-{
+    lent: usize,
+    lent_cells: usize,
+    lent_entries: usize,
+) {
+    let rows = at_most(lent, ROWS);
+    let cells = at_most(lent_cells, CELLS);
+    let entries = at_most(lent_entries, ENTRIES);
     let filled = at_most(answer.rows as usize, rows);
     let logged = at_most(answer.pairs as usize, entries);
     print_answer(answer);
@@ -339,156 +312,143 @@ fn plan_in(
     );
 }
 
-// A case under its name: what its query, crew and memory are, handed on in parts.
-fn show(name: &[u8], query: Query, crew: Crew, room: Room) {
+// Document 01's query, planned by a crew in so many rows, cells and log entries.
+fn example(
+    name: &[u8],
+    workers: u64,
+    scheme: u64,
+    turns: &[u64],
+    lent: usize,
+    cells: usize,
+    entries: usize,
+)
+    requires { ⌜ (lent ≤ 80) × (cells ≤ 400) × (entries ≤ 8) ⌝ }
+{
+    let rows = [100, 10, 1000];
+    let scans = [100, 10, 1000];
+    let left = [1, 2];
+    let right = [2, 3];
+    let divisors = [10, 100];
     put(name);
-    put(b"\n");
-    let rows = query.rows;
-    let scans = query.scans;
-    let left = query.left;
-    let right = query.right;
-    let divisors = query.divisors;
-    let turns = crew.turns;
-    let tables = at_most(query.tables, TABLES);
-    let edges = at_most(query.edges, TABLES);
-    let listed = at_most(crew.listed, TURNS);
     plan_in(
-        &rows[0..tables],
-        &scans[0..tables],
-        &left[0..edges],
-        &right[0..edges],
-        &divisors[0..edges],
-        crew.workers,
-        crew.scheme,
-        &turns[0..listed],
-        at_most(room.rows, ROWS),
-        at_most(room.cells, CELLS),
-        at_most(room.entries, ENTRIES),
+        &rows,
+        &scans,
+        &left,
+        &right,
+        &divisors,
+        workers,
+        scheme,
+        turns,
+        lent,
+        cells,
+        entries,
     );
 }
 
-// Document 01's query.
-fn example() -> Query {
-    Query {
-        rows: [100, 10, 1000, 0, 0, 0, 0, 0],
-        scans: [100, 10, 1000, 0, 0, 0, 0, 0],
-        left: [1, 2, 0, 0, 0, 0, 0, 0],
-        right: [2, 3, 0, 0, 0, 0, 0, 0],
-        divisors: [10, 100, 0, 0, 0, 0, 0, 0],
-        tables: 3,
-        edges: 2,
-    }
+// The query with one worker and no list of turns.
+fn alone(name: &[u8], lent: usize, cells: usize, entries: usize)
+    requires { ⌜ (lent ≤ 80) × (cells ≤ 400) × (entries ≤ 8) ⌝ }
+{
+    let turns = [0u64; 0];
+    example(name, 1, 1, &turns, lent, cells, entries);
 }
 
-// 000's figure 4: eight tables, edges 1-2, 1-3, 1-4, 2-5, 2-6, 4-7, 4-8.
-fn figure_4() -> Query {
-    Query {
-        rows: [10, 20, 30, 40, 50, 60, 70, 80],
-        scans: [10, 20, 30, 40, 50, 60, 70, 80],
-        left: [1, 1, 1, 2, 2, 4, 4, 0],
-        right: [2, 3, 4, 5, 6, 7, 8, 0],
-        divisors: [2, 3, 4, 5, 6, 7, 8, 0],
-        tables: 8,
-        edges: 7,
-    }
+// The query with C5's crew: two workers, scheme 3, turns 1,1.
+fn listed(name: &[u8], entries: usize)
+    requires { ⌜ entries ≤ 8 ⌝ }
+{
+    let turns = [1, 1];
+    example(name, 2, 3, &turns, 8, 12, entries);
 }
 
-// The example's first tables with its first edges.
-fn part(tables: usize, edges: usize) -> Query {
-    let mut query = example();
-    query.tables = tables;
-    query.edges = edges;
-    query
+// The query with C6's crew: two workers, scheme 1, no list.
+fn shared() {
+    let turns = [0u64; 0];
+    example(b"C6: two workers, scheme 1\n", 2, 1, &turns, 8, 12, 6);
 }
 
-// The example with no rows in table 2.
-fn without_rows() -> Query {
-    let mut query = example();
-    query.rows[1] = 0;
-    query
-}
-
-// Workers with no list of turns.
-fn unlisted(workers: u64, scheme: u64) -> Crew {
-    Crew {
-        workers: workers,
-        scheme: scheme,
-        turns: [0; 2],
-        listed: 0,
-    }
-}
-
-// C5's crew: two workers, scheme 3, turns 1,1.
-fn listed() -> Crew {
-    Crew {
-        workers: 2,
-        scheme: 3,
-        turns: [1; 2],
-        listed: 2,
-    }
-}
-
-fn lend(rows: usize, cells: usize, entries: usize) -> Room {
-    Room {
-        rows: rows,
-        cells: cells,
-        entries: entries,
-    }
-}
-
-// The cases that plan: the example has six rows, ten cells and four pairs, figure 4 many more pairs than the log has entries.
-fn planned() {
-    show(
-        b"C1, C2, C3: one worker",
-        example(),
-        unlisted(1, 1),
-        lend(8, 12, 6),
+// 000's figure 4: eight tables, edges 1-2, 1-3, 1-4, 2-5, 2-6, 4-7, 4-8. It has far more pairs than the log has entries.
+fn figure_4() {
+    let rows = [10, 20, 30, 40, 50, 60, 70, 80];
+    let scans = [10, 20, 30, 40, 50, 60, 70, 80];
+    let left = [1, 1, 1, 2, 2, 4, 4];
+    let right = [2, 3, 4, 5, 6, 7, 8];
+    let divisors = [2, 3, 4, 5, 6, 7, 8];
+    let turns = [0u64; 0];
+    put(b"C4: figure 4\n");
+    plan_in(
+        &rows,
+        &scans,
+        &left,
+        &right,
+        &divisors,
+        1,
+        1,
+        &turns,
+        65,
+        258,
+        6,
     );
-    show(
-        b"C4: figure 4",
-        figure_4(),
-        unlisted(1, 1),
-        lend(65, 258, 6),
-    );
-    show(
-        b"C5: two workers, scheme 3, turns 1,1",
-        example(),
-        listed(),
-        lend(8, 12, 6),
-    );
-    show(
-        b"C6: two workers, scheme 1",
-        example(),
-        unlisted(2, 1),
-        lend(8, 12, 6),
-    );
-    show(b"C7: one table", part(1, 0), unlisted(1, 1), lend(2, 2, 1));
-    show(b"C10: six rows", example(), unlisted(1, 1), lend(6, 12, 6));
-    show(
-        b"C11: no rows in table 2",
-        without_rows(),
-        unlisted(1, 1),
-        lend(8, 12, 6),
-    );
-    show(b"C12: ten cells", example(), unlisted(1, 1), lend(8, 10, 6));
-    show(b"a log of three", example(), listed(), lend(6, 10, 3));
-    show(b"no log", example(), listed(), lend(6, 10, 0));
 }
 
-// The cases that are refused: every mark stands as before.
-fn refused() {
-    show(b"C8: no table", part(0, 0), unlisted(1, 1), lend(2, 2, 1));
-    show(
-        b"C9: two tables, no edge",
-        part(2, 0),
-        unlisted(1, 1),
-        lend(4, 5, 2),
-    );
-    show(b"C10: five rows", example(), unlisted(1, 1), lend(5, 12, 6));
-    show(b"C12: nine cells", example(), unlisted(1, 1), lend(8, 9, 6));
+fn one_table() {
+    let table = [100];
+    let none = [0u64; 0];
+    put(b"C7: one table\n");
+    plan_in(&table, &table, &none, &none, &none, 1, 1, &none, 2, 2, 1);
 }
 
+fn no_table() {
+    let none = [0u64; 0];
+    put(b"C8: no table\n");
+    plan_in(&none, &none, &none, &none, &none, 1, 1, &none, 2, 2, 1);
+}
+
+fn no_edge() {
+    let tables = [100, 10];
+    let none = [0u64; 0];
+    put(b"C9: two tables, no edge\n");
+    plan_in(&tables, &tables, &none, &none, &none, 1, 1, &none, 4, 5, 2);
+}
+
+// The query with no rows in table 2.
+fn without_rows() {
+    let rows = [100, 0, 1000];
+    let scans = [100, 10, 1000];
+    let left = [1, 2];
+    let right = [2, 3];
+    let divisors = [10, 100];
+    let turns = [0u64; 0];
+    put(b"C11: no rows in table 2\n");
+    plan_in(
+        &rows,
+        &scans,
+        &left,
+        &right,
+        &divisors,
+        1,
+        1,
+        &turns,
+        8,
+        12,
+        6,
+    );
+}
+
+// The query has six rows, ten cells and four pairs.
 fn main() {
-    planned();
-    refused();
+    alone(b"C1, C2, C3: one worker\n", 8, 12, 6);
+    figure_4();
+    listed(b"C5: two workers, scheme 3, turns 1,1\n", 6);
+    shared();
+    one_table();
+    no_table();
+    no_edge();
+    alone(b"C10: six rows\n", 6, 12, 6);
+    alone(b"C10: five rows\n", 5, 12, 6);
+    without_rows();
+    alone(b"C12: ten cells\n", 8, 10, 6);
+    alone(b"C12: nine cells\n", 8, 9, 6);
+    listed(b"a log of three\n", 3);
+    listed(b"no log\n", 0);
 }
