@@ -190,18 +190,27 @@ fn set(query: Query, list: usize, i: usize, value: u64) -> Query {
     changed
 }
 
-// Every third query has numbers below 3, so that many costs tie; every third has numbers up to the limit of rows.
-fn spread(number: u64) -> u64 {
-    match number % 3 {
+// Numbers below 3, so that many costs tie; small ones; or up to the limit of rows.
+fn spread(kind: u64) -> u64 {
+    match kind % 3 {
         0 => 3,
         1 => 100,
         _ => 1_000_001,
     }
 }
 
+// Over the queries each number of tables meets each kind of rows, and those each kind of divisors.
+fn row_spread(number: u64) -> u64 {
+    spread(number / 6)
+}
+
+fn divisor_spread(number: u64) -> u64 {
+    least(spread(number / 18), 1_000_000)
+}
+
 // Coefficients are at most 1,000.
-fn coefficient(number: u64, at: u64) -> u64 {
-    draw(number, at, least(spread(number), 1_001))
+fn coefficient_spread(number: u64) -> u64 {
+    least(row_spread(number), 1_001)
 }
 
 // Cell `at` of the cells of a query: what a field of its list may be.
@@ -209,10 +218,10 @@ fn field(number: u64, at: usize) -> u64 {
     let list = at / ROOM;
     let place = at as u64;
     match list {
-        DIVISORS => wrapping_add_u64(1, draw(number, place, least(spread(number), 1_000_000))),
-        OUTER | INNER | RESULT => coefficient(number, place),
+        DIVISORS => wrapping_add_u64(1, draw(number, place, divisor_spread(number))),
+        OUTER | INNER | RESULT => draw(number, place, coefficient_spread(number)),
         NAMES => (at % ROOM) as u64 + 1,
-        _ => draw(number, place, spread(number)),
+        _ => draw(number, place, row_spread(number)),
     }
 }
 
@@ -492,7 +501,7 @@ fn planned(query: Query, crew: Crew) -> Memory {
 }
 
 // In how many cells two columns of the memo differ, the spare ones too.
-fn rows_apart(a: [u64; 128], b: [u64; 128]) -> u64 {
+fn rows_apart(a: &[u64; 128], b: &[u64; 128]) -> u64 {
     let mut apart = 0u64;
     for i in 0..LENT_ROWS {
         apart = sum(apart, one_if(a[i] != b[i]));
@@ -500,7 +509,7 @@ fn rows_apart(a: [u64; 128], b: [u64; 128]) -> u64 {
     apart
 }
 
-fn cells_apart(a: [u64; 456], b: [u64; 456]) -> u64 {
+fn cells_apart(a: &[u64; 456], b: &[u64; 456]) -> u64 {
     let mut apart = 0u64;
     for i in 0..LENT_CELLS {
         apart = sum(apart, one_if(a[i] != b[i]));
@@ -509,25 +518,56 @@ fn cells_apart(a: [u64; 456], b: [u64; 456]) -> u64 {
 }
 
 fn answers_apart(a: Answer, b: Answer) -> u64 {
-    one_if(a.refusal != b.refusal)
-        + one_if(a.place != b.place)
-        + one_if(a.best != b.best)
-        + one_if(a.rows != b.rows)
-        + one_if(a.cells != b.cells)
-        + one_if(a.pairs != b.pairs)
+    let refusal = sum(one_if(a.refusal != b.refusal), one_if(a.place != b.place));
+    let found = sum(one_if(a.best != b.best), one_if(a.pairs != b.pairs));
+    let room = sum(one_if(a.rows != b.rows), one_if(a.cells != b.cells));
+    sum(refusal, sum(found, room))
 }
 
-// In how many cells what two crews left differs.
+// In how many cells the rows that two crews left differ in set or estimate.
+fn layouts_apart(a: Memory, b: Memory) -> u64 {
+    let sets = a.sets;
+    let other_sets = b.sets;
+    let estimates = a.estimates;
+    let other_estimates = b.estimates;
+    sum(
+        rows_apart(&sets, &other_sets),
+        rows_apart(&estimates, &other_estimates),
+    )
+}
+
+// In how many cells the joins that two crews left differ.
+fn joins_apart(a: Memory, b: Memory) -> u64 {
+    let costs = a.costs;
+    let other_costs = b.costs;
+    let outers = a.outers;
+    let other_outers = b.outers;
+    let methods = a.methods;
+    let other_methods = b.methods;
+    let priced = rows_apart(&costs, &other_costs);
+    sum(
+        priced,
+        sum(
+            rows_apart(&outers, &other_outers),
+            rows_apart(&methods, &other_methods),
+        ),
+    )
+}
+
+// In how many cells what two crews left differs, log and counts aside.
 fn apart(a: Memory, b: Memory) -> u64 {
-    let sets = rows_apart(a.sets, b.sets);
-    let estimates = rows_apart(a.estimates, b.estimates);
-    let costs = rows_apart(a.costs, b.costs);
-    let outers = rows_apart(a.outers, b.outers);
-    let methods = rows_apart(a.methods, b.methods);
-    let skips = cells_apart(a.skips, b.skips);
-    let answers = answers_apart(a.answer, b.answer);
-    let memo = sum(sum(sum(sets, estimates), sum(costs, outers)), methods);
-    sum(memo, sum(skips, answers))
+    let skips = a.skips;
+    let other_skips = b.skips;
+    let answer = a.answer;
+    let other_answer = b.answer;
+    let memo = sum(layouts_apart(a, b), joins_apart(a, b));
+    sum(
+        memo,
+        sum(
+            cells_apart(&skips, &other_skips),
+            answers_apart(answer, other_answer),
+        ),
+    )
 }
 
 // "A turn names a worker": each logged worker is below the count.
