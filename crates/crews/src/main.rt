@@ -218,7 +218,7 @@ fn field(number: u64, at: usize) -> u64 {
     let list = at / ROOM;
     let place = at as u64;
     match list {
-        DIVISORS => wrapping_add_u64(1, draw(number, place, divisor_spread(number))),
+        DIVISORS => sum(1, draw(number, place, divisor_spread(number))),
         OUTER | INNER | RESULT => draw(number, place, coefficient_spread(number)),
         NAMES => (at % ROOM) as u64 + 1,
         _ => draw(number, place, row_spread(number)),
@@ -236,7 +236,7 @@ fn tables_of(number: u64) -> Query {
         number: number,
         tables: 2 + (number % 6) as usize,
         edges: 0,
-        methods: 1 + draw(number, METHODS_DRAW, 4) as usize,
+        methods: sum(1, draw(number, METHODS_DRAW, 4)) as usize,
     }
 }
 
@@ -725,31 +725,51 @@ fn all_pairs(cells: &[u64; 240], edges: usize, sets: &[u64; 128], count: usize) 
     found
 }
 
-// What is wrong with the log and the counts of a crew.
-fn log_faults(query: Query, crew: Crew, memory: Memory) -> u64 {
+// What is wrong with the pairs of a log, whoever had them.
+fn pair_faults(query: Query, memory: Memory) -> u64 {
     let cells = query.cells;
     let edges = query.edges;
     let sets = memory.sets;
+    let driving = memory.log_driving;
+    let inner = memory.log_inner;
+    let answer = memory.answer;
+    let pairs = at_most(answer.pairs as usize, ENTRIES);
+    let rows = at_most(answer.rows as usize, LENT_ROWS);
+    let wrong = not_joinable(&cells, edges, &driving, &inner, pairs);
+    let late = out_of_order(&driving, &inner, pairs);
+    let twice = repeated(&driving, &inner, pairs);
+    let missed = one_if(all_pairs(&cells, edges, &sets, rows) != answer.pairs);
+    sum(sum(wrong, late), sum(twice, missed))
+}
+
+// What is wrong with the workers of a log and with the counts.
+fn worker_faults(crew: Crew, memory: Memory) -> u64 {
+    let workers = memory.log_workers;
+    let answer = memory.answer;
+    let counts = answer.counts;
+    let pairs = at_most(answer.pairs as usize, ENTRIES);
+    sum(
+        strangers(&workers, pairs, crew.workers),
+        miscounted(&counts, &workers, pairs),
+    )
+}
+
+// What is wrong with the order of the workers, where there is no list.
+fn order_faults(crew: Crew, memory: Memory) -> u64 {
+    if crew.listed != 0 {
+        return 0;
+    }
     let workers = memory.log_workers;
     let driving = memory.log_driving;
     let inner = memory.log_inner;
     let answer = memory.answer;
-    let counts = answer.counts;
     let pairs = at_most(answer.pairs as usize, ENTRIES);
-    let rows = at_most(answer.rows as usize, LENT_ROWS);
-    let mut faults = strangers(&workers, pairs, crew.workers);
-    faults = sum(faults, not_joinable(&cells, edges, &driving, &inner, pairs));
-    faults = sum(faults, out_of_order(&driving, &inner, pairs));
-    faults = sum(faults, repeated(&driving, &inner, pairs));
-    faults = sum(faults, miscounted(&counts, &workers, pairs));
-    faults = sum(
-        faults,
-        one_if(all_pairs(&cells, edges, &sets, rows) != answer.pairs),
-    );
-    if crew.listed == 0 {
-        faults = sum(faults, not_lowest(&workers, &driving, &inner, pairs));
-    }
-    faults
+    not_lowest(&workers, &driving, &inner, pairs)
+}
+
+fn log_faults(query: Query, crew: Crew, memory: Memory) -> u64 {
+    let whose = sum(worker_faults(crew, memory), order_faults(crew, memory));
+    sum(pair_faults(query, memory), whose)
 }
 
 // A plan's log added to the tally.

@@ -15,14 +15,14 @@ loop-holds c = search needs
 mul-one-if : tie.Need-mul-one-if Inv-loop μ-loop
 mul-one-if c = search needs
 
-array-read-one-if : tie.Need-array-read-one-if Inv-loop μ-loop
-array-read-one-if c = search needs
+element-copy-out-one-if : tie.Need-element-copy-out-one-if Inv-loop μ-loop
+element-copy-out-one-if c = search needs
 
 mul-one-if-2 : tie.Need-mul-one-if-2 Inv-loop μ-loop
 mul-one-if-2 c = search needs
 
-array-read-one-if-2 : tie.Need-array-read-one-if-2 Inv-loop μ-loop
-array-read-one-if-2 c = search needs
+element-copy-out-one-if-2 : tie.Need-element-copy-out-one-if-2 Inv-loop μ-loop
+element-copy-out-one-if-2 c = search needs
 
 one-if-requires : tie.Need-one-if-requires Inv-loop μ-loop
 one-if-requires c κs = search needs
@@ -50,9 +50,9 @@ rows-apart-spec =
     μ-loop
     loop-holds
     mul-one-if
-    array-read-one-if
+    element-copy-out-one-if
     mul-one-if-2
-    array-read-one-if-2
+    element-copy-out-one-if-2
     one-if-requires
     sum-requires
     add-i

@@ -38,8 +38,8 @@ add-t12 c = search needs
 draw-requires : tie.Need-draw-requires Inv-loop μ-loop
 draw-requires c κs = search needs
 
-add-t15 : tie.Need-add-t15 Inv-loop μ-loop
-add-t15 c = search needs
+sum-requires : tie.Need-sum-requires Inv-loop μ-loop
+sum-requires c κs = search needs
 
 returns : tie.Need-returns Inv-loop μ-loop
 returns c = search needs
@@ -59,5 +59,5 @@ tables-of-spec =
     loop-again
     add-t12
     draw-requires
-    add-t15
+    sum-requires
     returns)
