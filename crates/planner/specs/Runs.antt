@@ -148,6 +148,13 @@ pub record Within (q : Query) (scheme : Scheme) (m : ℕ) (turns : List ℕ) (ol
   pub kept : Kept (q .graph) old c
   pub log-fits : LogFits log
 
+-- between two turns, whatever was kept and lent before
+pub record Underway (q : Query) (scheme : Scheme) (m : ℕ) (turns : List ℕ) (s low : ℕ) (workers : List Worker) (at pairs : ℕ) (c : Columns) (log : Memory) : Type 0 where
+  pub old : Columns
+  pub lent : Memory
+  pub lent-fits : LogFits lent
+  pub within : Within q scheme m turns old lent s low workers at pairs c log
+
 -- whatever was kept and lent before, what stood at one turn of a size stands, carried on, at a later one
 pub record Carried (q : Query) (scheme : Scheme) (m : ℕ) (turns : List ℕ) (s low₀ : ℕ) (workers₀ : List Worker) (at₀ pairs₀ : ℕ) (c₀ : Columns) (log₀ : Memory)
     (low : ℕ) (workers : List Worker) (at pairs : ℕ) (c : Columns) (log : Memory) : Type 0 where

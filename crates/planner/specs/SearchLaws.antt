@@ -33,7 +33,7 @@ use Rattle.turns.specs.QueueLaws.{stillMet, turn-found, turn-progress, turn-pro
 use Rattle.turns.specs.StepLaws.{step-costs, step-outers, step-methods}
 use Rattle.turns.specs.StartLaws.{tables-fit, Starting, final-start, reach-start, ground-at, Prepared, board-of}
 use Rattle.turns.specs.Whose.{LowestLeft, whose, entriesOn}
-use Rattle.planner.specs.Runs.{notedIf, countIf, LogFits, Running, SearchReady, Kept, Between, Within, Carried, SearchDone, countsOf}
+use Rattle.planner.specs.Runs.{notedIf, countIf, LogFits, Running, SearchReady, Kept, Between, Within, Underway, Carried, SearchDone, countsOf}
 use Rattle.planner.specs.RunLaws.{running-listed-some, running-lowest, running-listed-none, ran-start, running-open, pairs-few, running-closed, ran-sizes, ran-rows, ran-counts}
 
 -- ---- what is spare stays
@@ -195,6 +195,13 @@ pub carried-turn : {q : Query} {scheme : Scheme} {m s : ℕ} {turns : List ℕ} 
     → {low′ : ℕ} {log′ : Memory} → LowestLeft workers′ m low′ → log′ ≡ notedIf log pairs w pair → {at′ pairs′ : ℕ} → at′ ≡ entriesOn (length turns) at → pairs′ ≡ countIf pairs pair
     → Carried q scheme m turns s low₀ workers₀ at₀ pairs₀ c₀ log₀ low′ workers′ at′ pairs′ new log′
 carried-turn sound two known entries z more e t l n a p = record { carry = λ old lent f w. rw (a, p) (within-turn sound two known f entries (z .carry old lent f w) more e t l n) }
+
+pub underway-turn : {q : Query} {scheme : Scheme} {m s : ℕ} {turns : List ℕ} {low at pairs : ℕ} {workers : List Worker} {c : Columns} {log : Memory}
+    → Sound q → 2 ≤ s → s ≤ tableCount (q .graph) → ((j : ℕ) → j < length turns → getD turns j 0 < m) → Underway q scheme m turns s low workers at pairs c log → low < m
+    → {w : ℕ} → w ≡ whose turns at low → {workers′ : List Worker} {new : Columns} {pair : code.Handed} → TurnTaken (q .graph) (q .fixed) (q .perOuter) (q .perInner) (q .perResult) s w workers workers′ c new pair
+    → {low′ : ℕ} {log′ : Memory} → LowestLeft workers′ m low′ → log′ ≡ notedIf log pairs w pair → {at′ pairs′ : ℕ} → at′ ≡ entriesOn (length turns) at → pairs′ ≡ countIf pairs pair
+    → Underway q scheme m turns s low′ workers′ at′ pairs′ new log′
+underway-turn sound two known entries z more e t l n a p = record { old = z .old; lent = z .lent; lent-fits = z .lent-fits; within = rw (a, p) (within-turn sound two known (z .lent-fits) entries (z .within) more e t l n) }
 
 -- ---- bounds, over plain numbers
 pub two-of : {k : ℕ} → 1 ≤ k → 2 ≤ k + 1

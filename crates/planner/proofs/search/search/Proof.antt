@@ -9,14 +9,15 @@ use Rattle.memo.specs.Layout.{starts, cellStarts}
 use Rattle.turns.specs.Standing.{columns}
 use Rattle.turns.specs.QueueLaws.{stillMet}
 use Rattle.turns.specs.StartLaws.{Prepared}
-use Rattle.planner.specs.Runs.{logOf, Between, Carried}
-use Rattle.planner.specs.SearchLaws.{scans-fit, between-start, between-end, prepared, nobodies, within-open, within-closed, within-few, within-board, within-ready, whose-known, within-less, carried-start, carried-turn, two-of, size-of, below-eight, few-pairs, laid-length, logged-lengths}
+use Rattle.planner.specs.Runs.{logOf, Between, Underway, Carried}
+use Rattle.planner.specs.SearchLaws.{scans-fit, between-start, between-end, prepared, nobodies, within-open, within-closed, within-few, within-board, within-ready, whose-known, within-less, carried-start, carried-turn, underway-turn, two-of, size-of, below-eight, few-pairs, laid-length, logged-lengths}
 use Rattle.planner.proofs.search.search.Statement.{statement}
 use Rattle.planner.proofs.search.search.Tie as tie
 
 abbrev Inv-loop2 : tie.InvT-loop2
 Inv-loop2 rows scans left right divisors fixed outer inner result scheme count turns sets estimates costs₀ outers₀ methods₀ skips log-workers₀ log-driving₀ log-inner₀ log-costs₀ firsts cells workers₀ at₀ pairs₀ k s low₀ k-end costs outers methods log-workers log-driving log-inner log-costs workers at pairs low =
     Prepared (queryOf rows scans left right divisors fixed outer inner result) sets estimates skips firsts cells × (2 ≤ s) × (s ≤ length rows) × (length firsts ≡ 18) × (length cells ≡ 18)
+    × Underway (queryOf rows scans left right divisors fixed outer inner result) scheme count turns s low workers at pairs (columns costs outers methods) (logOf log-workers log-driving log-inner log-costs)
     × Carried (queryOf rows scans left right divisors fixed outer inner result) scheme count turns s low₀ workers₀ at₀ pairs₀ (columns costs₀ outers₀ methods₀) (logOf log-workers₀ log-driving₀ log-inner₀ log-costs₀) low workers at pairs (columns costs outers methods) (logOf log-workers log-driving log-inner log-costs)
 
 abbrev μ-loop2 : tie.MeasureT-loop2
@@ -61,7 +62,8 @@ loop-holds c =
     let z = s .pre in
     let g = graphOf (s .args .rows .now) (s .args .left .now) (s .args .right .now) (s .args .divisors .now) in
     let l = c .before .before .before .before .before .before .before .lay-starts .ensures in
-    let n = nobodies (c .nobody .ensures) in (
+    let n = nobodies (c .nobody .ensures) in
+    (
       omega arith,
       z .sound .graph .some-table,
       refl,
@@ -92,8 +94,20 @@ lowest-requires c κs = c .before .before .before .before .before .before .befor
 
 loop2-holds : tie.Need-loop2-holds Inv-loop2 μ-loop2 Inv-loop μ-loop
 loop2-holds c =
+    let s = c .before .before .before .before .before .before .before .before .before .before .before .before .before .before .before .before .before .before .before .before .before .before .before .before .before .before .before .before .before .before .before .before .before .before .before .before in
+    let z = s .pre in
     let l = c .before .before .before .before .before .loop in
-    (l .inv .3, two-of (l .inv .0), size-of (c .before .before .before .before .loop-test .taken) (l .inv .2), l .inv .4, l .inv .5, carried-start _ _ _ _ _ _ _ _ _ _ _)
+    let two = two-of (l .inv .0) in
+    let known = size-of (c .before .before .before .before .loop-test .taken) (l .inv .2) in
+    (
+      l .inv .3,
+      two,
+      known,
+      l .inv .4,
+      l .inv .5,
+      record { old = _; lent = _; lent-fits = z .log-fits; within = within-open (z .sound) two known (z .some-worker) (z .few-workers) (l .inv .6) (c .before .open .ensures) (c .lowest .ensures) },
+      carried-start _ _ _ _ _ _ _ _ _ _ _,
+    )
 
 whose-turn-requires : tie.Need-whose-turn-requires Inv-loop2 μ-loop2 Inv-loop μ-loop
 whose-turn-requires c κs = tt
@@ -112,21 +126,19 @@ turn-requires : tie.Need-turn-requires Inv-loop2 μ-loop2 Inv-loop μ-loop
 turn-requires c κs =
     let s = c .before .before .before .before .before .before .before .before .before .before .before .before .before .before .before .before .before .before .before .before .before .before .before .before .before .before .before .before .before .before .before .before .before .before .before .before .before .before .before .before .before .before .before .before in
     let z = s .pre in
-    let l = c .before .before .before .before .before .before .before .before .before .before .before .before .before .loop in
     let m = c .before .before .before .before .before .before .before .loop2 in
-    let w = m .inv .5 .carry _ _ (z .log-fits) (within-open (z .sound) (m .inv .1) (m .inv .2) (z .some-worker) (z .few-workers) (l .inv .6) (c .before .before .before .before .before .before .before .before .before .open .ensures) (c .before .before .before .before .before .before .before .before .lowest .ensures)) in
+    let u = m .inv .5 in
     let e = c .before .before .before .before .before .whose-turn .ensures in
-    (within-board (z .sound) (m .inv .1) (m .inv .2) (z .log-fits) (z .turns-known) w (c .before .before .before .before .before .before .loop2-test .taken) (m .inv .0), (below-eight (whose-known (z .sound) (m .inv .1) (m .inv .2) (z .log-fits) (z .turns-known) w (c .before .before .before .before .before .before .loop2-test .taken) e) (z .few-workers), within-ready (z .sound) (m .inv .1) (m .inv .2) (z .log-fits) (z .turns-known) w (c .before .before .before .before .before .before .loop2-test .taken) e))
+    (within-board (z .sound) (m .inv .1) (m .inv .2) (u .lent-fits) (z .turns-known) (u .within) (c .before .before .before .before .before .before .loop2-test .taken) (m .inv .0), (below-eight (whose-known (z .sound) (m .inv .1) (m .inv .2) (u .lent-fits) (z .turns-known) (u .within) (c .before .before .before .before .before .before .loop2-test .taken) e) (z .few-workers), within-ready (z .sound) (m .inv .1) (m .inv .2) (u .lent-fits) (z .turns-known) (u .within) (c .before .before .before .before .before .before .loop2-test .taken) e))
 
 note-requires : tie.Need-note-requires Inv-loop2 μ-loop2 Inv-loop μ-loop
 note-requires c κs =
     let s = c .before .before .before .before .before .before .before .before .before .before .before .before .before .before .before .before .before .before .before .before .before .before .before .before .before .before .before .before .before .before .before .before .before .before .before .before .before .before .before .before .before .before .before .before .before .before .before .before .before .before .before .before .before .before .before .before .before in
     let z = s .pre in
-    let l = c .before .before .before .before .before .before .before .before .before .before .before .before .before .before .before .before .before .before .before .before .before .before .before .before .before .before .loop in
     let m = c .before .before .before .before .before .before .before .before .before .before .before .before .before .before .before .before .before .before .before .before .loop2 in
-    let w = m .inv .5 .carry _ _ (z .log-fits) (within-open (z .sound) (m .inv .1) (m .inv .2) (z .some-worker) (z .few-workers) (l .inv .6) (c .before .before .before .before .before .before .before .before .before .before .before .before .before .before .before .before .before .before .before .before .before .before .open .ensures) (c .before .before .before .before .before .before .before .before .before .before .before .before .before .before .before .before .before .before .before .before .before .lowest .ensures)) in
-    let f = w .log-fits in
-    ((f .driving, f .inner, f .costs), few-pairs (within-few (z .sound) (m .inv .1) (m .inv .2) (z .some-worker) (z .few-workers) w) (m .inv .2) (z .sound .graph .few-tables))
+    let u = m .inv .5 in
+    let f = u .within .log-fits in
+    ((f .driving, f .inner, f .costs), few-pairs (within-few (z .sound) (m .inv .1) (m .inv .2) (z .some-worker) (z .few-workers) (u .within)) (m .inv .2) (z .sound .graph .few-tables))
 
 entries-on-requires : tie.Need-entries-on-requires Inv-loop2 μ-loop2 Inv-loop μ-loop
 entries-on-requires c κs = tt
@@ -138,23 +150,24 @@ loop2-less : tie.Need-loop2-less Inv-loop2 μ-loop2 Inv-loop μ-loop
 loop2-less c =
     let s = c .before .before .before .before .before .before .before .before .before .before .before .before .before .before .before .before .before .before .before .before .before .before .before .before .before .before .before .before .before .before .before .before .before .before .before .before .before .before .before .before .before .before .before .before .before .before .before .before .before .before .before .before .before .before .before .before .before .before .before .before .before .before .before .before .before .before .before .before in
     let z = s .pre in
-    let l = c .before .before .before .before .before .before .before .before .before .before .before .before .before .before .before .before .before .before .before .before .before .before .before .before .before .before .before .before .before .before .before .before .before .before .before .before .before .loop in
     let m = c .before .before .before .before .before .before .before .before .before .before .before .before .before .before .before .before .before .before .before .before .before .before .before .before .before .before .before .before .before .before .before .loop2 in
-    let w = m .inv .5 .carry _ _ (z .log-fits) (within-open (z .sound) (m .inv .1) (m .inv .2) (z .some-worker) (z .few-workers) (l .inv .6) (c .before .before .before .before .before .before .before .before .before .before .before .before .before .before .before .before .before .before .before .before .before .before .before .before .before .before .before .before .before .before .before .before .before .open .ensures) (c .before .before .before .before .before .before .before .before .before .before .before .before .before .before .before .before .before .before .before .before .before .before .before .before .before .before .before .before .before .before .before .before .lowest .ensures)) in
-    rw (c .before .entries-on .ensures) (within-less (z .sound) (m .inv .1) (m .inv .2) (z .log-fits) (z .turns-known) w (c .before .before .before .before .before .before .before .before .before .before .before .before .before .before .before .before .before .before .before .before .before .before .before .before .before .before .before .before .before .before .loop2-test .taken) (c .before .before .before .before .before .before .before .before .before .before .before .before .before .before .before .before .before .before .before .before .before .before .before .before .before .before .before .before .before .whose-turn .ensures) (c .before .before .before .before .before .before .before .before .before .before .before .before .before .before .before .before .before .before .before .before .before .before .before .turn .ensures))
+    let u = m .inv .5 in
+    rw (c .before .entries-on .ensures) (within-less (z .sound) (m .inv .1) (m .inv .2) (u .lent-fits) (z .turns-known) (u .within) (c .before .before .before .before .before .before .before .before .before .before .before .before .before .before .before .before .before .before .before .before .before .before .before .before .before .before .before .before .before .before .loop2-test .taken) (c .before .before .before .before .before .before .before .before .before .before .before .before .before .before .before .before .before .before .before .before .before .before .before .before .before .before .before .before .before .whose-turn .ensures) (c .before .before .before .before .before .before .before .before .before .before .before .before .before .before .before .before .before .before .before .before .before .before .before .turn .ensures))
 
 loop2-again : tie.Need-loop2-again Inv-loop2 μ-loop2 Inv-loop μ-loop
 loop2-again c =
     let s = c .before .before .before .before .before .before .before .before .before .before .before .before .before .before .before .before .before .before .before .before .before .before .before .before .before .before .before .before .before .before .before .before .before .before .before .before .before .before .before .before .before .before .before .before .before .before .before .before .before .before .before .before .before .before .before .before .before .before .before .before .before .before .before .before .before .before .before .before in
     let z = s .pre in
     let m = c .before .before .before .before .before .before .before .before .before .before .before .before .before .before .before .before .before .before .before .before .before .before .before .before .before .before .before .before .before .before .before .loop2 in
-    let n = c .before .before .before .before .before .before .before .before .before .before .note .ensures in (
+    let n = c .before .before .before .before .before .before .before .before .before .before .note .ensures in
+    (
       m .inv .0,
       m .inv .1,
       m .inv .2,
       m .inv .3,
       m .inv .4,
-      carried-turn (z .sound) (m .inv .1) (m .inv .2) (z .turns-known) (m .inv .5) (c .before .before .before .before .before .before .before .before .before .before .before .before .before .before .before .before .before .before .before .before .before .before .before .before .before .before .before .before .before .before .loop2-test .taken) (c .before .before .before .before .before .before .before .before .before .before .before .before .before .before .before .before .before .before .before .before .before .before .before .before .before .before .before .before .before .whose-turn .ensures) (c .before .before .before .before .before .before .before .before .before .before .before .before .before .before .before .before .before .before .before .before .before .before .before .turn .ensures) (c .lowest2 .ensures) (n .1) (c .before .entries-on .ensures) (n .0),
+      underway-turn (z .sound) (m .inv .1) (m .inv .2) (z .turns-known) (m .inv .5) (c .before .before .before .before .before .before .before .before .before .before .before .before .before .before .before .before .before .before .before .before .before .before .before .before .before .before .before .before .before .before .loop2-test .taken) (c .before .before .before .before .before .before .before .before .before .before .before .before .before .before .before .before .before .before .before .before .before .before .before .before .before .before .before .before .before .whose-turn .ensures) (c .before .before .before .before .before .before .before .before .before .before .before .before .before .before .before .before .before .before .before .before .before .before .before .turn .ensures) (c .lowest2 .ensures) (n .1) (c .before .entries-on .ensures) (n .0),
+      carried-turn (z .sound) (m .inv .1) (m .inv .2) (z .turns-known) (m .inv .6) (c .before .before .before .before .before .before .before .before .before .before .before .before .before .before .before .before .before .before .before .before .before .before .before .before .before .before .before .before .before .before .loop2-test .taken) (c .before .before .before .before .before .before .before .before .before .before .before .before .before .before .before .before .before .before .before .before .before .before .before .before .before .before .before .before .before .whose-turn .ensures) (c .before .before .before .before .before .before .before .before .before .before .before .before .before .before .before .before .before .before .before .before .before .before .before .turn .ensures) (c .lowest2 .ensures) (n .1) (c .before .entries-on .ensures) (n .0),
     )
 
 add-k : tie.Need-add-k Inv-loop2 μ-loop2 Inv-loop μ-loop
@@ -169,7 +182,8 @@ loop-again c =
     let z = s .pre in
     let l = c .before .before .before .before .before .before .before .loop in
     let m = c .before .loop2 in
-    let w = m .inv .5 .carry _ _ (z .log-fits) (within-open (z .sound) (m .inv .1) (m .inv .2) (z .some-worker) (z .few-workers) (l .inv .6) (c .before .before .before .open .ensures) (c .before .before .lowest .ensures)) in (
+    let w = m .inv .6 .carry _ _ (z .log-fits) (within-open (z .sound) (m .inv .1) (m .inv .2) (z .some-worker) (z .few-workers) (l .inv .6) (c .before .before .before .open .ensures) (c .before .before .lowest .ensures)) in
+    (
       omega (arith, m .inv .1),
       m .inv .2,
       l .inv .2,
