@@ -16,6 +16,10 @@ pub mod Log
 pub mod Refusals
 pub mod Checked
 pub mod Answers
+pub mod Lines
+pub mod Reading
+pub mod Writing
+pub mod Text
 pub mod laws
 pub mod Cases
 pub mod Wrong

@@ -43,6 +43,34 @@ maxEstimate = 1000000000000
 abbrev pub costBound : ℕ
 costBound = 100000000000000000
 
+-- text: "At most 16,384 bytes"
+abbrev pub maxBytes : ℕ
+maxBytes = 16384
+
+-- text: "1 to 10 digits"
+abbrev pub maxDigits : ℕ
+maxDigits = 10
+
+-- text: a number is "at most 1,000,000,000"
+abbrev pub maxNumber : ℕ
+maxNumber = 1000000000
+
+-- text: a "121st E" is refused
+abbrev pub maxEdgeLines : ℕ
+maxEdgeLines = 120
+
+-- text: "plans in 1,023 rows .. of its own"
+abbrev pub textRows : ℕ
+textRows = 1023
+
+-- text: "and 5,120 cells of its own"
+abbrev pub textCells : ℕ
+textCells = 5120
+
+-- text: "a 4,096-byte buffer, which every answer fits"
+abbrev pub answerRoom : ℕ
+answerRoom = 4096
+
 -- low to high, both included
 abbrev pub inRange : ℕ → ℕ → ℕ → Bool
 inRange low high n = leb low n && leb n high

@@ -66,3 +66,8 @@ pub record Pick (q : Query) (S x m : ℕ) : Type 0 where
   pub among : Reaches q S x m
   pub outer-first : (x′ m′ : ℕ) → Reaches q S x′ m′ → x ≤ x′
   pub method-first : (x′ m′ : ℕ) → Reaches q S x′ m′ → x ≡ x′ → m ≤ m′
+
+-- the tree that the tie rule picks: each of its joins is the pick of its set
+unfoldable pub Picked : Query → Tree → Type 0
+Picked q (scan t) = IsTable (q .graph) t
+Picked q (join x y m) = Picked q x × Picked q y × Pick q (tablesOf x + tablesOf y) (tablesOf x) m

@@ -11,6 +11,7 @@ pub mod Choice
 pub mod Bellman
 pub mod Handed
 pub mod Memo
+pub mod Picked
 pub mod Reference
 pub mod Estimate
 pub mod Shares
@@ -22,3 +23,5 @@ pub mod Complete
 pub mod Refusals
 pub mod Outcome
 pub mod Answers
+pub mod Writing
+pub mod Text

@@ -4,6 +4,8 @@ ghost use mathlib.Core.Path.{_≡_};
 ghost use Rattle.rules.specs.Limits.{inRange, tablesFit, methodsFit};
 ghost use Rattle.rules.specs.Kinds.{newTable, newEdge, newMethod, newCrew, schemeOf, schemeNumber};
 
+pub mod forms;
+
 // Low to high, both included.
 fn in_range(low: u64, high: u64, n: u64) -> bool
     ensures { λ r. ⌜ r ≡ inRange low high n ⌝ }
@@ -69,6 +71,9 @@ pub enum NewEdge {
 
 impl Edge {
     pub const MAX_DIVISOR: u64 = 1_000_000;
+
+    // A text has at most this many E lines: one for each pair of tables.
+    pub const MAX_LINES: u64 = 120;
 
     // An edge of a query of `count` tables.
     pub fn new(count: u64, left: u64, right: u64, divisor: u64) -> NewEdge

@@ -78,7 +78,7 @@ crew-free {i} {i′} {o} {o′} e l g g′ =
     (filled-unique l m (g′ .memory), least-unique b (g′ .answer .best))
 
 -- what the turns hand is settled by the input
-hands-unique : {i : Input} {h h′ : List (Hand Numbered)} → InTurn i h → InTurn i h′ → h ≡ h′
+pub hands-unique : {i : Input} {h h′ : List (Hand Numbered)} → InTurn i h → InTurn i h′ → h ≡ h′
 hands-unique {i} {h} {h′} t t′ =
     let e : t .scheme ≡ t′ .scheme = cc (t .named, t′ .named) in
     sizes-unique (i .workers) (queue (i .query .graph) (t′ .scheme) (i .workers)) 2 (tableCount (i .query .graph) - 1) (i .turns) h h′ (rw e at (t .sizes)) (t′ .sizes)

@@ -62,8 +62,7 @@ loop-holds c =
     let z = s .pre in
     let g = graphOf (s .args .rows .now) (s .args .left .now) (s .args .right .now) (s .args .divisors .now) in
     let l = c .before .before .before .before .before .before .before .lay-starts .ensures in
-    let n = nobodies (c .nobody .ensures) in
-    (
+    let n = nobodies (c .nobody .ensures) in (
       omega arith,
       z .sound .graph .some-table,
       refl,
@@ -98,8 +97,7 @@ loop2-holds c =
     let z = s .pre in
     let l = c .before .before .before .before .before .loop in
     let two = two-of (l .inv .0) in
-    let known = size-of (c .before .before .before .before .loop-test .taken) (l .inv .2) in
-    (
+    let known = size-of (c .before .before .before .before .loop-test .taken) (l .inv .2) in (
       l .inv .3,
       two,
       known,
@@ -159,8 +157,7 @@ loop2-again c =
     let s = c .before .before .before .before .before .before .before .before .before .before .before .before .before .before .before .before .before .before .before .before .before .before .before .before .before .before .before .before .before .before .before .before .before .before .before .before .before .before .before .before .before .before .before .before .before .before .before .before .before .before .before .before .before .before .before .before .before .before .before .before .before .before .before .before .before .before .before .before in
     let z = s .pre in
     let m = c .before .before .before .before .before .before .before .before .before .before .before .before .before .before .before .before .before .before .before .before .before .before .before .before .before .before .before .before .before .before .before .loop2 in
-    let n = c .before .before .before .before .before .before .before .before .before .before .note .ensures in
-    (
+    let n = c .before .before .before .before .before .before .before .before .before .before .note .ensures in (
       m .inv .0,
       m .inv .1,
       m .inv .2,
@@ -182,8 +179,7 @@ loop-again c =
     let z = s .pre in
     let l = c .before .before .before .before .before .before .before .loop in
     let m = c .before .loop2 in
-    let w = m .inv .6 .carry _ _ (z .log-fits) (within-open (z .sound) (m .inv .1) (m .inv .2) (z .some-worker) (z .few-workers) (l .inv .6) (c .before .before .before .open .ensures) (c .before .before .lowest .ensures)) in
-    (
+    let w = m .inv .6 .carry _ _ (z .log-fits) (within-open (z .sound) (m .inv .1) (m .inv .2) (z .some-worker) (z .few-workers) (l .inv .6) (c .before .before .before .open .ensures) (c .before .before .lowest .ensures)) in (
       omega (arith, m .inv .1),
       m .inv .2,
       l .inv .2,

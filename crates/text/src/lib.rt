@@ -1,0 +1,149 @@
+// The text entry's work: a text's bytes to the bytes of its answer.
+use planner::plan;
+use reader::reading::read;
+use rules::Verdict;
+use sets::single;
+use writer::joins::put_joins;
+use writer::lines::put_plan;
+use writer::lines::put_refusal;
+
+// The first n bytes of one list to the start of another.
+fn copy(from: &[u8], to: &mut [u8]) {
+    let mut i = 0;
+    while i < from.len() {
+        to[i] = from[i];
+        i += 1;
+    }
+}
+
+// Plans what was read, in memory of its own, and writes the answer.
+fn plan_read(
+    out: &mut [u8],
+    rows: &[u64],
+    scans: &[u64],
+    left: &[u64],
+    right: &[u64],
+    divisors: &[u64],
+    fixed: &[u64],
+    outer: &[u64],
+    inner: &[u64],
+    result: &[u64],
+    workers: u64,
+    scheme: u64,
+) -> usize {
+    let turns = [0u64; 0];
+    let mut sets = [0u64; 1023];
+    let mut estimates = [0u64; 1023];
+    let mut costs = [0u64; 1023];
+    let mut outers = [0u64; 1023];
+    let mut methods = [0u64; 1023];
+    let mut skips = [0u64; 5120];
+    let mut log_workers = [0u64; 0];
+    let mut log_driving = [0u64; 0];
+    let mut log_inner = [0u64; 0];
+    let mut log_costs = [0u64; 0];
+    let answer = plan(
+        rows,
+        scans,
+        left,
+        right,
+        divisors,
+        fixed,
+        outer,
+        inner,
+        result,
+        workers,
+        scheme,
+        &turns,
+        &mut sets,
+        &mut estimates,
+        &mut costs,
+        &mut outers,
+        &mut methods,
+        &mut skips,
+        &mut log_workers,
+        &mut log_driving,
+        &mut log_inner,
+        &mut log_costs,
+    );
+    if answer.refusal != 0 {
+        return put_refusal(
+            out,
+            0,
+            Verdict {
+                number: answer.refusal,
+                place: answer.place,
+            },
+        );
+    }
+    let joins = put_plan(out, 0, answer.best, answer.pairs);
+    let n = rows.len() as u64;
+    put_joins(
+        out,
+        joins,
+        n,
+        single(n + 1) - 1,
+        &sets,
+        &estimates,
+        &costs,
+        &outers,
+        &methods,
+    )
+}
+
+// The answer to a text, at the start of `out`, which any answer fits; and its length.
+fn compose(text: &[u8], out: &mut [u8]) -> usize {
+    let mut rows = [0u64; 16];
+    let mut scans = [0u64; 16];
+    let mut left = [0u64; 120];
+    let mut right = [0u64; 120];
+    let mut divisors = [0u64; 120];
+    let mut fixed = [0u64; 4];
+    let mut outer = [0u64; 4];
+    let mut inner = [0u64; 4];
+    let mut result = [0u64; 4];
+    let held = read(
+        text,
+        &mut rows,
+        &mut scans,
+        &mut left,
+        &mut right,
+        &mut divisors,
+        &mut fixed,
+        &mut outer,
+        &mut inner,
+        &mut result,
+    );
+    if held.verdict.number != 0 {
+        return put_refusal(out, 0, held.verdict);
+    }
+    let tables = held.progress.tables;
+    let edges = held.progress.edges;
+    let ways = held.progress.methods;
+    plan_read(
+        out,
+        &rows[0..tables],
+        &scans[0..tables],
+        &left[0..edges],
+        &right[0..edges],
+        &divisors[0..edges],
+        &fixed[0..ways],
+        &outer[0..ways],
+        &inner[0..ways],
+        &result[0..ways],
+        held.progress.workers,
+        held.progress.scheme,
+    )
+}
+
+// Plans the query of a text, and writes the answer to the start of a lent buffer: its length, or 0 and nothing written where it
+// does not fit.
+pub fn plan_bytes(query: &[u8], answer: &mut [u8]) -> usize {
+    let mut lines = [0u8; 4096];
+    let length = compose(query, &mut lines);
+    if answer.len() < length {
+        return 0;
+    }
+    copy(&lines[0..length], answer);
+    length
+}
