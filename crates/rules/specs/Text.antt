@@ -4,7 +4,7 @@ use mathlib.Core.List.{List, [], _∷_, _++_}
 use Prim.Native.Nat.{ℕ, _≤_, _<_}
 use lib.ListN.{length, replicate}
 use Rattle.rules.specs.declared.Verdict.{Verdict}
-use Rattle.rules.specs.Limits.{textRows, textCells}
+use Rattle.rules.specs.Limits.{textRows, textCells, answerRoom}
 use Rattle.rules.specs.Lists.{over}
 use Rattle.rules.specs.Sets.{full}
 use Rattle.rules.specs.Query.{tableCount}
@@ -56,15 +56,21 @@ pub record PlanText (i : Input) (bytes : List ℕ) : Type 0 where
   pub turns : InTurn i handed
   pub bytes-are : bytes ≡ planLine (costOf (i .query) tree) (length handed) ++ joinLines (i .query) tree
 
+-- the lines of an answer under a verdict: of a plan where there is no refusal, else its X line
+pub record Lined (v : Verdict) (i : Input) (bytes : List ℕ) : Type 0 where
+  pub planned : v .number ≡ 0 → PlanText i bytes
+  pub refused : 0 < v .number → bytes ≡ refusalLine v
+
 -- the answer to a text, whatever buffer is lent
-pub record Answers (text bytes : List ℕ) : Type 0 where
-  pub planned : textVerdict text .number ≡ 0 → PlanText (inputOf text) bytes
-  pub refused : 0 < textVerdict text .number → bytes ≡ refusalLine (textVerdict text)
+abbrev pub Answers : List ℕ → List ℕ → Type 0
+Answers text bytes = Lined (textVerdict text) (inputOf text) bytes
 
 -- "It writes the lines below from the buffer's start, returns only their length (0 exactly with 15), and leaves the bytes after them unchanged."
 pub record Written (text before after : List ℕ) (r : ℕ) : Type 0 where
   pub bytes : List ℕ
   pub answer : Answers text bytes
+  -- "a 4,096-byte buffer, which every answer fits"
+  pub short : length bytes ≤ answerRoom
   pub fits : length bytes ≤ length before → (r ≡ length bytes) × (after ≡ over bytes before)
   -- 15: "the answer is longer than its buffer; nothing is written"
   pub long : length before < length bytes → (r ≡ 0) × (after ≡ before)

@@ -8,6 +8,7 @@ use native.Mathlib.Omega.{arith}
 use lib.ListN.{length, getD}
 use borrow.Author.Tests.{eq-eqb, ne-eqb}
 use Rattle.rules.specs.declared.Verdict.{Verdict}
+use Rattle.rules.specs.Limits.{answerRoom}
 use Rattle.rules.specs.Lists.{over}
 use Rattle.rules.specs.Sets.{size, full}
 use Rattle.rules.specs.Query.{Query, tableCount}
@@ -20,7 +21,7 @@ use Rattle.rules.specs.Refusals.{Input, firstOf, verdict, none}
 use Rattle.rules.specs.Answers.{Outcome, Given}
 use Rattle.rules.specs.Reading.{reading}
 use Rattle.rules.specs.Writing.{answerLine, planLine, refusalLine, joinLines}
-use Rattle.rules.specs.Text.{inputOf, textVerdict, PlanText, Answers, Written}
+use Rattle.rules.specs.Text.{inputOf, textVerdict, PlanText, Lined, Answers, Written}
 use Rattle.rules.specs.laws.Lists.{in-at}
 use Rattle.rules.specs.laws.Rows.{memo-all}
 use Rattle.rules.specs.laws.Picked.{PickedTree, picked-exists, picked-least, picked-unique}
@@ -116,19 +117,22 @@ answers-exist text = go (decLt 0 (textVerdict text .number))
         let p = plan-exists (inputOf text) (none-good text (omega arith) .accepted-query) in
         (p .0, record { planned = λ _. p .1; refused = λ l. absurd (omega arith) })
 
-pub answers-unique : {text a b : List ℕ} → Answers text a → Answers text b → a ≡ b
-answers-unique {text} {a} {b} p r = go (decLt 0 (textVerdict text .number))
+lined-unique : {v : Verdict} {i : Input} {a b : List ℕ} → Lined v i a → Lined v i b → a ≡ b
+lined-unique {v} {i} {a} {b} p r = go (decLt 0 (v .number))
   where
-    go : Dec (0 < textVerdict text .number) → a ≡ b
+    go : Dec (0 < v .number) → a ≡ b
     go (yes l) = p .refused l ∙ sym (r .refused l)
-    go (no z) = let e : textVerdict text .number ≡ 0 = omega arith in plan-unique (p .planned e) (r .planned e)
+    go (no z) = let e : v .number ≡ 0 = omega arith in plan-unique (p .planned e) (r .planned e)
+
+pub answers-unique : (text : List ℕ) {a b : List ℕ} → Answers text a → Answers text b → a ≡ b
+answers-unique text p r = lined-unique p r
 
 -- ANY TWO OUTCOMES that `Written` allows for one text and one buffer are equal
 pub written-unique : {text old a b : List ℕ} {r s : ℕ} → Written text old a r → Written text old b s → (a ≡ b) × (r ≡ s)
 written-unique {text} {old} {a} {b} {r} {s} w u = go (decLt (length old) (length (u .bytes)))
   where
     same : w .bytes ≡ u .bytes
-    same = answers-unique (w .answer) (u .answer)
+    same = answers-unique text (w .answer) (u .answer)
 
     go : Dec (length old < length (u .bytes)) → (a ≡ b) × (r ≡ s)
     go (yes l) = (w .long (rw same l) .1 ∙ sym (u .long l .1), w .long (rw same l) .0 ∙ sym (u .long l .0))
@@ -136,18 +140,47 @@ written-unique {text} {old} {a} {b} {r} {s} w u = go (decLt (length old) (length
         let k : length (u .bytes) ≤ length old = omega arith in
         (w .fits (rw same k) .1 ∙ ap (λ (x : List ℕ). over x old) same ∙ sym (u .fits k .1), w .fits (rw same k) .0 ∙ ap length same ∙ sym (u .fits k .0))
 
+-- no answer is empty
+letter-some : (letter : ℕ) (parts : List (List ℕ)) → 0 < length (answerLine letter parts)
+unfolding answerLine
+letter-some letter parts = omega arith
+
+line-some : (letter : ℕ) (parts : List (List ℕ)) (more : List ℕ) → 0 < length (answerLine letter parts ++ more)
+unfolding answerLine
+line-some letter parts more = omega arith
+
+pub answer-some : (text : List ℕ) {bytes : List ℕ} → Answers text bytes → 0 < length bytes
+unfolding planLine refusalLine
+answer-some text {bytes} a = go (decLt 0 (textVerdict text .number))
+  where
+    go : Dec (0 < textVerdict text .number) → 0 < length bytes
+    go (yes l) = rw (a .refused l) (letter-some 88 _)
+    go (no z) = let p = a .planned (omega arith) in rw (p .bytes-are) (line-some 80 _ _)
+
+-- 0 IS RETURNED EXACTLY WHERE THE ANSWER IS LONGER THAN ITS BUFFER
+pub zero-long : {text old new : List ℕ} {r : ℕ} (w : Written text old new r) → r ≡ 0 → length old < length (w .bytes)
+zero-long {text} {old} w e = go (decLt (length old) (length (w .bytes)))
+  where
+    go : Dec (length old < length (w .bytes)) → length old < length (w .bytes)
+    go (yes l) = l
+    go (no z) = absurd (omega (arith, answer-some text (w .answer), w .fits (omega arith) .0))
+
+-- A BUFFER OF 4,096 BYTES ALWAYS SUFFICES
+pub room-suffices : {text old new : List ℕ} {r : ℕ} (w : Written text old new r) → answerRoom ≤ length old → (r ≡ length (w .bytes)) × (new ≡ over (w .bytes) old)
+room-suffices w l = w .fits (omega (arith, w .short))
+
 -- ---- P EXACTLY FOR A PLAN
 line-letter : (letter : ℕ) (parts : List (List ℕ)) (more : List ℕ) → getD (answerLine letter parts ++ more) 0 0 ≡ letter
 unfolding answerLine
 line-letter letter parts more = refl
 
-pub good-plan : {text bytes : List ℕ} → Answers text bytes → GoodText text → getD bytes 0 0 ≡ 80
+pub good-plan : (text : List ℕ) {bytes : List ℕ} → Answers text bytes → GoodText text → getD bytes 0 0 ≡ 80
 unfolding planLine
-good-plan a g = let p = a .planned (good-none g) in ap (λ (l : List ℕ). getD l 0 0) (p .bytes-are) ∙ line-letter 80 _ _
+good-plan text a g = let p = a .planned (good-none g) in ap (λ (l : List ℕ). getD l 0 0) (p .bytes-are) ∙ line-letter 80 _ _
 
-pub plan-good : {text bytes : List ℕ} → Answers text bytes → getD bytes 0 0 ≡ 80 → GoodText text
+pub plan-good : (text : List ℕ) {bytes : List ℕ} → Answers text bytes → getD bytes 0 0 ≡ 80 → GoodText text
 unfolding refusalLine answerLine
-plan-good {text} {bytes} a e = go (decLt 0 (textVerdict text .number))
+plan-good text {bytes} a e = go (decLt 0 (textVerdict text .number))
   where
     go : Dec (0 < textVerdict text .number) → GoodText text
     go (yes l) = let k : _≡_ {A = ℕ} 88 80 = sym (ap (λ (x : List ℕ). getD x 0 0) (a .refused l)) ∙ e in absurd (omega (arith, k))
