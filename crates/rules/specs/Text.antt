@@ -7,7 +7,7 @@ use Rattle.rules.specs.declared.Verdict.{Verdict}
 use Rattle.rules.specs.Limits.{textRows, textCells, answerRoom}
 use Rattle.rules.specs.Lists.{over}
 use Rattle.rules.specs.Sets.{full}
-use Rattle.rules.specs.Query.{tableCount}
+use Rattle.rules.specs.Query.{Query, tableCount}
 use Rattle.rules.specs.Trees.{Tree, tablesOf, costOf, Picked}
 use Rattle.rules.specs.Shares.{Numbered}
 use Rattle.rules.specs.Turns.{Hand}
@@ -35,9 +35,13 @@ ownMemory = record {
   logCosts = [];
 }
 
--- the library's input for a text: "The list of turns is empty."
+-- the library's input from the text entry: "The list of turns is empty."
+abbrev pub textInput : Query → (workers scheme : ℕ) → Input
+textInput q workers scheme = record { query = q; workers = workers; scheme = scheme; turns = []; lent = ownMemory }
+
+-- the same for what was read
 abbrev pub inputFor : Read → Input
-inputFor s = record { query = s .query; workers = s .workers; scheme = s .scheme; turns = []; lent = ownMemory }
+inputFor s = textInput (s .query) (s .workers) (s .scheme)
 
 -- the same by the text's bytes
 abbrev pub inputOf : List ℕ → Input

@@ -1,4 +1,14 @@
 // The text entry's work: a text's bytes to the bytes of its answer.
+ghost use mathlib.Core.Path.{_≡_};
+ghost use mathlib.Core.List.{[]};
+ghost use Prim.Native.Nat.{_≤_};
+ghost use lib.ListN.{length};
+ghost use Rattle.rules.specs.Limits.{answerRoom};
+ghost use Rattle.rules.specs.Lists.{over};
+ghost use Rattle.rules.specs.Refusals.{verdict};
+ghost use Rattle.rules.specs.Text.{textInput, inputOf, textVerdict, Written};
+ghost use Rattle.query.specs.Lists.{queryOf};
+ghost use Rattle.text.specs.Composing.{Composed};
 use planner::plan;
 use reader::reading::read;
 use rules::Verdict;
@@ -7,8 +17,11 @@ use writer::joins::put_joins;
 use writer::lines::put_plan;
 use writer::lines::put_refusal;
 
-// The first n bytes of one list to the start of another.
-fn copy(from: &[u8], to: &mut [u8]) {
+// One list to the start of another.
+fn copy(from: &[u8], to: &mut [u8])
+    requires { ⌜ length (now from) ≤ length (now to) ⌝ }
+    ensures { λ r. ⌜ now (to .exit) ≡ over (now (from .entry)) (now (to .entry)) ⌝ }
+{
     let mut i = 0;
     while i < from.len() {
         to[i] = from[i];
@@ -30,7 +43,10 @@ fn plan_read(
     result: &[u64],
     workers: u64,
     scheme: u64,
-) -> usize {
+) -> usize
+    requires { ⌜ answerRoom ≤ length (now out) ⌝ }
+    ensures { λ r. ⌜ Composed (verdict (textInput (queryOf (now (rows .entry)) (now (scans .entry)) (now (left .entry)) (now (right .entry)) (now (divisors .entry)) (now (fixed .entry)) (now (outer .entry)) (now (inner .entry)) (now (result .entry))) workers scheme)) (textInput (queryOf (now (rows .entry)) (now (scans .entry)) (now (left .entry)) (now (right .entry)) (now (divisors .entry)) (now (fixed .entry)) (now (outer .entry)) (now (inner .entry)) (now (result .entry))) workers scheme) (now (out .entry)) (now (out .exit)) r ⌝ }
+{
     let turns = [0u64; 0];
     let mut sets = [0u64; 1023];
     let mut estimates = [0u64; 1023];
@@ -92,7 +108,10 @@ fn plan_read(
 }
 
 // The answer to a text, at the start of `out`, which any answer fits; and its length.
-fn compose(text: &[u8], out: &mut [u8]) -> usize {
+fn compose(text: &[u8], out: &mut [u8]) -> usize
+    requires { ⌜ answerRoom ≤ length (now out) ⌝ }
+    ensures { λ r. ⌜ Composed (textVerdict (now (text .entry))) (inputOf (now (text .entry))) (now (out .entry)) (now (out .exit)) r ⌝ }
+{
     let mut rows = [0u64; 16];
     let mut scans = [0u64; 16];
     let mut left = [0u64; 120];
@@ -138,7 +157,9 @@ fn compose(text: &[u8], out: &mut [u8]) -> usize {
 
 // Plans the query of a text, and writes the answer to the start of a lent buffer: its length, or 0 and nothing written where it
 // does not fit.
-pub fn plan_bytes(query: &[u8], answer: &mut [u8]) -> usize {
+pub fn plan_bytes(query: &[u8], answer: &mut [u8]) -> usize
+    ensures { λ r. ⌜ Written (now (query .entry)) (now (answer .entry)) (now (answer .exit)) r ⌝ }
+{
     let mut lines = [0u8; 4096];
     let length = compose(query, &mut lines);
     if answer.len() < length {

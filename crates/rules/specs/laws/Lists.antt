@@ -9,7 +9,7 @@ use native.Mathlib.Decide.{ℕ-discrete}
 use native.Mathlib.Numerals.{add-one}
 use native.Mathlib.Omega.{arith}
 use lib.ListN.{length, drop, getD, length-append, length-drop, List·getD-append}
-use lib.Seq.{drop-append-seam}
+use lib.Seq.{drop-nil, drop-append-seam}
 use Rattle.rules.specs.Lists.{keep, inRow, over}
 use Rattle.rules.specs.laws.Bools.{true-or-false}
 
@@ -124,6 +124,13 @@ over-spare v l = drop-append-seam v (drop (length v) l)
 
 pub over-at : (v l : List ℕ) (j : ℕ) → j < length v → getD (over v l) j 0 ≡ getD v j 0
 over-at v l j h = List·getD-append v (drop (length v) l) 0 j h
+
+-- past the written cells it is as it was
+pub over-past : (v l : List ℕ) (j : ℕ) → length v ≤ j → getD (over v l) j 0 ≡ getD l j 0
+over-past [] l j h = refl
+over-past (x ∷ v) l zero h = absurd (omega arith)
+over-past (x ∷ v) [] (suc j) h = ap (λ (l : List ℕ). getD (v ++ l) j 0) (sym (drop-nil (length v))) ∙ over-past v [] j (omega arith)
+over-past (x ∷ v) (y ∷ l) (suc j) h = over-past v l j (omega arith)
 
 -- ---- sums
 unfoldable pub sum : List ℕ → ℕ
