@@ -1,4 +1,31 @@
-# The one gate: every crate from nothing, every must-fail edit, every program.
-.PHONY: test
+# make run < FILE   plans the query text FILE (the program is proved and linked first)
+# make test         the gate: every crate from nothing, every must-fail edit, every program, then the library from C
+# make lib          target/staticlib/libbutirampol.a, for C
+# make engine       a small engine in C over it, run on an example
+.PHONY: run test lib engine c-tests
+
+CFLAGS = -std=c11 -O2 -Wall -Wextra -Werror -Iinclude
+LIBRARY = target/staticlib/libbutirampol.a
+
+run:
+	@rt check plan </dev/null >&2
+	@target/bin/plan
+
 test:
-	@rt ci
+	@tests/run
+
+lib:
+	@rt staticlib butirampol
+
+target/engine: examples/engine.c include/butirampol.h lib
+	@$(CC) $(CFLAGS) -o $@ $< $(LIBRARY)
+
+target/buffers: tests/c/buffers.c include/butirampol.h lib
+	@$(CC) $(CFLAGS) -o $@ $< $(LIBRARY)
+
+engine: target/engine
+	@target/engine examples/worked.txt
+
+# what `rt ci` does not see: the compiled library behind its C header
+c-tests: target/engine target/buffers
+	@tests/examples
