@@ -1,3 +1,4 @@
 pub mod Composing
 pub mod PlanLaws
 pub mod ReadLaws
+pub mod CopyLaws

@@ -20,12 +20,10 @@ use writer::lines::put_refusal;
 // One list to the start of another.
 fn copy(from: &[u8], to: &mut [u8])
     requires { ⌜ length (now from) ≤ length (now to) ⌝ }
-    ensures { λ r. ⌜ now (to .exit) ≡ over (now (from .entry)) (now (to .entry)) ⌝ }
+    ensures { λ _. ⌜ now (to .exit) ≡ over (now (from .entry)) (now (to .entry)) ⌝ }
 {
-    let mut i = 0;
-    while i < from.len() {
+    for i in 0..from.len() {
         to[i] = from[i];
-        i += 1;
     }
 }
 
