@@ -8,7 +8,7 @@ use native.Mathlib.Omega.{arith}
 use lib.Dec.{ltb}
 use lib.ListN.{length, length-append}
 use borrow.Author.Tests.{lt-ltb, le-ltb}
-use Rattle.writer.specs.PutLaws.{room-first, room-as}
+use Rattle.writer.specs.PutLaws.{room-first, room-of}
 use Rattle.rules.specs.Lines.{zeroDigit}
 use Rattle.rules.specs.Writing.{digitsBy, digitsOf}
 
@@ -52,4 +52,4 @@ tenth-less n t h e = omega arith
 
 -- and has room where the number has
 pub tenth-room : (at room n : ℕ) → 10 ≤ n → at + length (digitsOf n) ≤ room → at + length (digitsOf (n / 10)) ≤ room
-tenth-room at room n h l = room-first at room (digitsOf (n / 10)) ((zeroDigit + n % 10) ∷ []) (room-as at room (digits-more n h) l)
+tenth-room at room n h l = room-first (digitsOf (n / 10)) ((zeroDigit + n % 10) ∷ []) (room-of (digits-more n h) l)

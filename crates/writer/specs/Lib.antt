@@ -4,3 +4,5 @@ pub mod Plans
 pub mod PutLaws
 pub mod DigitLaws
 pub mod SetLaws
+pub mod LineLaws
+pub mod PlanLaws

@@ -31,14 +31,18 @@ put-as e p = rw e at p
 pub put-length : {a b xs : List ℕ} {at r : ℕ} → Put a b at r xs → length b ≡ length a
 put-length {a} {b} {xs} {at} p = ap length (p .written) ∙ length-sets a at xs
 
+-- room for some bytes from a place on
+pub record Room (at room : ℕ) (bytes : List ℕ) : Type 0 where
+  pub left : at + length bytes ≤ room
+
+-- room under another name
+pub room-of : {xs ys : List ℕ} {at room : ℕ} → xs ≡ ys → at + length ys ≤ room → Room at room xs
+room-of e l = record { left = rw e l }
+
 -- room for two runs is room for the first
-pub room-first : (at room : ℕ) (xs ys : List ℕ) → at + length (xs ++ ys) ≤ room → at + length xs ≤ room
-room-first at room xs ys l = omega (arith, length-append xs ys)
+pub room-first : {at room : ℕ} (xs ys : List ℕ) → Room at room (xs ++ ys) → at + length xs ≤ room
+room-first xs ys l = omega (arith, length-append xs ys, l .left)
 
 -- and, once the first is put, for the second
-pub room-then : {a b xs : List ℕ} {at m : ℕ} (ys : List ℕ) → Put a b at m xs → at + length (xs ++ ys) ≤ length a → m + length ys ≤ length b
-room-then {a} {b} {xs} ys p l = omega (arith, length-append xs ys, put-length p, p .end)
-
--- the same room under another name
-pub room-as : {xs ys : List ℕ} (at room : ℕ) → xs ≡ ys → at + length ys ≤ room → at + length xs ≤ room
-room-as at room e l = rw e l
+pub room-then : {a b xs : List ℕ} {at m : ℕ} (ys : List ℕ) → Put a b at m xs → Room at (length a) (xs ++ ys) → Room m (length b) ys
+room-then {a} {b} {xs} ys p l = record { left = omega (arith, length-append xs ys, put-length p, p .end, l .left) }

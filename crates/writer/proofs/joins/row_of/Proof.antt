@@ -1,41 +1,38 @@
+use Prim.Native.Nat.{_-_}
+use native.Mathlib.Omega.{arith}
+use lib.ListN.{length}
+use Rattle.writer.specs.PlanLaws.{Ahead, ahead-start, ahead-on}
 use Rattle.writer.proofs.joins.row_of.Statement.{statement}
 use Rattle.writer.proofs.joins.row_of.Tie as tie
 use Rattle.writer.proofs.joins.row_of.Reads as reads
 use Rattle.writer.proofs.joins.row_of.Lts as lts
 
 abbrev Inv-loop : tie.InvT-loop
-Inv-loop sets set row₀ row = ?
+Inv-loop sets set row₀ row = Ahead sets set row
 
 abbrev μ-loop : tie.MeasureT-loop
-μ-loop sets set row₀ row = ?
+μ-loop sets set row₀ row = length sets - row
 
--- src/joins.rt:21:5
 loop-holds : tie.Need-loop-holds Inv-loop μ-loop
-loop-holds c = ?
+loop-holds c = ahead-start _ _ (c .pre)
 
--- src/joins.rt:21:11
 mul-if1 : tie.Need-mul-if1 Inv-loop μ-loop
-mul-if1 c = ?
+mul-if1 c = omega arith
 
--- src/joins.rt:21:11
 shared-slice-read-if1 : tie.Need-shared-slice-read-if1 Inv-loop μ-loop
-shared-slice-read-if1 c = ?
+shared-slice-read-if1 c = omega arith
 
--- src/joins.rt:22:9
 add-row : tie.Need-add-row Inv-loop μ-loop
-add-row c = ?
+add-row c = omega arith
 
--- src/joins.rt:21:5
 loop-less : tie.Need-loop-less Inv-loop μ-loop
-loop-less c = ?
+loop-less c = omega arith
 
--- src/joins.rt:21:5
 loop-again : tie.Need-loop-again Inv-loop μ-loop
-loop-again c = ?
+loop-again c = ahead-on (c .before .before .loop .inv) (c .if1 .taken)
 
--- src/joins.rt:16:1
 returns : tie.Need-returns Inv-loop μ-loop
-returns c = ?
+returns c = (omega arith, c .if1 .left)
 
 pub row-of-spec : {M : Type 1} → statement M
 row-of-spec =

@@ -1,6 +1,6 @@
 use mathlib.Core.Path.{_∙_}
 use native.Mathlib.Omega.{arith}
-use Rattle.writer.specs.PutLaws.{put-then, put-as, put-length, room-then, room-as}
+use Rattle.writer.specs.PutLaws.{put-then, put-as, put-length, room-then, room-of}
 use Rattle.writer.specs.DigitLaws.{digits-one, digits-more, tenth-less, tenth-room}
 use Prim.Native.Nat.{ℕ, _<_}
 use borrow.Fn.Kinds.{In}
@@ -45,7 +45,7 @@ put-number-put-byte-requires : (t : ℕ) → put-number-lts.Need-put-byte-requir
   put-number-below t,
   put-number.Post,
 ) (put-number-at t) put-number.Post
-put-number-put-byte-requires t c κs = room-as _ _ (digits-one _ (c .before .if1 .taken)) (c .before .before .before .pre .1)
+put-number-put-byte-requires t c κs = room-of (digits-one _ (c .before .if1 .taken)) (c .before .before .before .pre .1) .left
 
 put-number-same-length : (t : ℕ) → put-number-lts.Need-same-length (
   put-byte-reads.Asked,
@@ -93,7 +93,7 @@ put-number-put-byte-requires-2 : (t : ℕ) → put-number-lts.Need-put-byte-requ
   put-number-below t,
   put-number.Post,
 ) (put-number-at t) put-number.Post
-put-number-put-byte-requires-2 t c κs = room-then _ (c .before .before .before .put-number .ensures) (room-as _ _ (digits-more _ (c .before .before .before .before .before .if1 .left)) (c .before .before .before .before .before .before .before .pre .1))
+put-number-put-byte-requires-2 t c κs = room-then _ (c .before .before .before .put-number .ensures) (room-of (digits-more _ (c .before .before .before .before .before .if1 .left)) (c .before .before .before .before .before .before .before .pre .1)) .left
 
 put-number-same-length-2 : (t : ℕ) → put-number-lts.Need-same-length-2 (
   put-byte-reads.Asked,

@@ -1,0 +1,55 @@
+use mathlib.Core.Path.{sym, _∙_}
+use mathlib.Core.List.{[], _∷_}
+use borrow.Author.Tests.{not-true, not-false}
+use Rattle.rules.specs.Writing.{comma}
+use Rattle.writer.specs.PutLaws.{put-none, put-then, put-as, room-first, room-then, room-of}
+use Rattle.writer.specs.SetLaws.{table-none, table-first, table-after}
+use borrow.Author.Needs.{needs}
+use Rattle.writer.proofs.numbers.put_table.Statement.{statement}
+use Rattle.writer.proofs.numbers.put_table.Tie as tie
+use Rattle.writer.proofs.numbers.put_table.Reads as reads
+use Rattle.writer.proofs.numbers.put_table.Lts as lts
+use Rattle.sets.proofs.has_table.Reads as has-table-reads
+use Rattle.writer.proofs.numbers.put_byte.Reads as put-byte-reads
+use Rattle.writer.proofs.numbers.put_number.Reads as put-number-reads
+
+has-table-requires : tie.Need-has-table-requires
+has-table-requires c κs = search needs
+
+returns : tie.Need-returns
+returns c = put-as (table-none _ _ _ (sym (c .before .has-table .ensures) ∙ not-true _ (c .if1 .taken))) (put-none _ _)
+
+put-byte-requires : tie.Need-put-byte-requires
+put-byte-requires c κs = room-first (comma ∷ []) _ (room-of (table-after _ _ _ _ (sym (c .before .before .before .has-table .ensures) ∙ not-false _ (c .before .before .if1 .left)) (c .before .if2 .taken)) (c .before .before .before .before .before .pre .2))
+
+put-number-requires : tie.Need-put-number-requires
+put-number-requires c κs = room-then _ (c .before .before .before .put-byte .ensures) (room-of (table-after _ _ _ _ (sym (c .before .before .before .before .before .before .before .has-table .ensures) ∙ not-false _ (c .before .before .before .before .before .before .if1 .left)) (c .before .before .before .before .before .if2 .taken)) (c .before .before .before .before .before .before .before .before .before .pre .2)) .left
+
+same-length : tie.Need-same-length
+same-length c = search needs
+
+returns-2 : tie.Need-returns-2
+returns-2 c = put-as (table-after _ _ _ _ (sym (c .before .before .before .before .before .before .before .before .before .before .has-table .ensures) ∙ not-false _ (c .before .before .before .before .before .before .before .before .before .if1 .left)) (c .before .before .before .before .before .before .before .before .if2 .taken)) (put-then (c .before .before .before .before .before .before .put-byte .ensures) (c .before .before .put-number .ensures))
+
+put-number-requires-2 : tie.Need-put-number-requires-2
+put-number-requires-2 c κs = room-of (table-first _ _ _ _ (sym (c .before .before .before .has-table .ensures) ∙ not-false _ (c .before .before .if1 .left)) (c .before .if2 .left)) (c .before .before .before .before .before .pre .2) .left
+
+same-length-2 : tie.Need-same-length-2
+same-length-2 c = search needs
+
+returns-3 : tie.Need-returns-3
+returns-3 c = put-as (table-first _ _ _ _ (sym (c .before .before .before .before .before .before .has-table .ensures) ∙ not-false _ (c .before .before .before .before .before .if1 .left)) (c .before .before .before .before .if2 .left)) (c .before .before .put-number2 .ensures)
+
+pub put-table-spec : {M : Type 1} → statement M
+put-table-spec =
+    tie.close
+    (tie.spec
+    has-table-requires
+    returns
+    put-byte-requires
+    put-number-requires
+    same-length
+    returns-2
+    put-number-requires-2
+    same-length-2
+    returns-3)
