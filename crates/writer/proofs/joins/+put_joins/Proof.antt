@@ -1,3 +1,7 @@
+use native.Mathlib.Omega.{arith}
+use borrow.Author.Needs.{needs}
+use Rattle.writer.specs.PutLaws.{put-length}
+use Rattle.writer.specs.PlanLaws.{row-stands, in-estimates, in-costs, in-outers, in-methods, few-tables, step-fits, scan-put, outer-less, inner-less, outer-fits, inner-fits, own-fits, join-put}
 use Prim.Native.Nat.{ℕ, _<_}
 use borrow.Fn.Kinds.{In}
 use borrow.Fn.PlainCycle.{Measures, is, falls, and}
@@ -11,7 +15,7 @@ use Rattle.writer.proofs.joins.+put_joins.{statement}
 use Rattle.writer.proofs.joins.+put_joins.Tie.{close}
 
 abbrev μ-put-joins : Measures 6 put-joins-kinds.ps ℕ
-μ-put-joins κs a = ?
+μ-put-joins κs a = a .1 .1 .1 .0
 
 abbrev put-joins-at : ℕ → In 6 put-joins-kinds.ps
 put-joins-at t = and 6 put-joins-kinds.ps (is 6 put-joins-kinds.ps μ-put-joins t) put-joins.Pre
@@ -20,7 +24,6 @@ abbrev put-joins-below : ℕ → In 6 put-joins-kinds.ps
 put-joins-below t =
     and 6 put-joins-kinds.ps (falls 6 put-joins-kinds.ps _<_ μ-put-joins t) put-joins.Pre
 
--- src/joins.rt:57:9
 put-joins-row-of-requires : (t : ℕ) → put-joins-lts.Need-row-of-requires (
   row-of-reads.Asked,
   row-of-reads.Learnt,
@@ -31,9 +34,8 @@ put-joins-row-of-requires : (t : ℕ) → put-joins-lts.Need-row-of-requires (
   put-join-reads.Asked,
   put-join-reads.Learnt,
 ) (put-joins-at t) put-joins.Post
-put-joins-row-of-requires t c κs = ?
+put-joins-row-of-requires t c κs = row-stands (c .before .before .before .before .before .before .pre .1 .1 .0) (c .before .before .before .before .before .before .pre .1 .1 .1)
 
--- src/joins.rt:58:24
 put-joins-mul-step-of : (t : ℕ) → put-joins-lts.Need-mul-step-of (
   row-of-reads.Asked,
   row-of-reads.Learnt,
@@ -44,9 +46,8 @@ put-joins-mul-step-of : (t : ℕ) → put-joins-lts.Need-mul-step-of (
   put-join-reads.Asked,
   put-join-reads.Learnt,
 ) (put-joins-at t) put-joins.Post
-put-joins-mul-step-of t c = ?
+put-joins-mul-step-of t c = omega (arith, in-outers (c .before .before .before .before .before .before .before .pre .1 .1 .0) _ (c .row-of .ensures .0))
 
--- src/joins.rt:58:24
 put-joins-shared-slice-read-step-of : (t : ℕ) → put-joins-lts.Need-shared-slice-read-step-of (
   row-of-reads.Asked,
   row-of-reads.Learnt,
@@ -57,9 +58,8 @@ put-joins-shared-slice-read-step-of : (t : ℕ) → put-joins-lts.Need-shared-sl
   put-join-reads.Asked,
   put-join-reads.Learnt,
 ) (put-joins-at t) put-joins.Post
-put-joins-shared-slice-read-step-of t c = ?
+put-joins-shared-slice-read-step-of t c = in-outers (c .before .before .before .before .before .before .before .before .pre .1 .1 .0) _ (c .before .row-of .ensures .0)
 
--- src/joins.rt:58:37
 put-joins-mul-step-of-2 : (t : ℕ) → put-joins-lts.Need-mul-step-of-2 (
   row-of-reads.Asked,
   row-of-reads.Learnt,
@@ -70,9 +70,8 @@ put-joins-mul-step-of-2 : (t : ℕ) → put-joins-lts.Need-mul-step-of-2 (
   put-join-reads.Asked,
   put-join-reads.Learnt,
 ) (put-joins-at t) put-joins.Post
-put-joins-mul-step-of-2 t c = ?
+put-joins-mul-step-of-2 t c = omega (arith, in-methods (c .before .before .before .before .before .before .before .before .pre .1 .1 .0) _ (c .before .row-of .ensures .0))
 
--- src/joins.rt:58:37
 put-joins-shared-slice-read-step-of-2 : (t : ℕ) → put-joins-lts.Need-shared-slice-read-step-of-2 (
   row-of-reads.Asked,
   row-of-reads.Learnt,
@@ -83,9 +82,8 @@ put-joins-shared-slice-read-step-of-2 : (t : ℕ) → put-joins-lts.Need-shared-
   put-join-reads.Asked,
   put-join-reads.Learnt,
 ) (put-joins-at t) put-joins.Post
-put-joins-shared-slice-read-step-of-2 t c = ?
+put-joins-shared-slice-read-step-of-2 t c = in-methods (c .before .before .before .before .before .before .before .before .before .pre .1 .1 .0) _ (c .before .before .row-of .ensures .0)
 
--- src/joins.rt:58:11
 put-joins-step-of-requires : (t : ℕ) → put-joins-lts.Need-step-of-requires (
   row-of-reads.Asked,
   row-of-reads.Learnt,
@@ -96,9 +94,8 @@ put-joins-step-of-requires : (t : ℕ) → put-joins-lts.Need-step-of-requires (
   put-join-reads.Asked,
   put-join-reads.Learnt,
 ) (put-joins-at t) put-joins.Post
-put-joins-step-of-requires t c κs = ?
+put-joins-step-of-requires t c κs = step-fits (c .before .before .before .before .before .before .before .before .before .pre .1 .1 .0) _ (c .before .before .row-of .ensures .0) (c .before .before .row-of .ensures .1) (c .before .before .before .before .before .before .before .before .before .pre .1 .1 .1)
 
--- src/joins.rt:59:26
 put-joins-enum-told : (t : ℕ) → put-joins-lts.Need-enum-told (
   row-of-reads.Asked,
   row-of-reads.Learnt,
@@ -109,9 +106,8 @@ put-joins-enum-told : (t : ℕ) → put-joins-lts.Need-enum-told (
   put-join-reads.Asked,
   put-join-reads.Learnt,
 ) (put-joins-at t) put-joins.Post
-put-joins-enum-told t c = ?
+put-joins-enum-told t c = search needs
 
--- src/joins.rt:60:20
 put-joins-enum-known-join : (t : ℕ) → put-joins-lts.Need-enum-known-join (
   row-of-reads.Asked,
   row-of-reads.Learnt,
@@ -122,9 +118,8 @@ put-joins-enum-known-join : (t : ℕ) → put-joins-lts.Need-enum-known-join (
   put-join-reads.Asked,
   put-join-reads.Learnt,
 ) (put-joins-at t) put-joins.Post
-put-joins-enum-known-join t c = ?
+put-joins-enum-known-join t c = search needs
 
--- src/joins.rt:61:17
 put-joins-put-joins-requires : (t : ℕ) → put-joins-lts.Need-put-joins-requires (
   row-of-reads.Asked,
   row-of-reads.Learnt,
@@ -135,9 +130,8 @@ put-joins-put-joins-requires : (t : ℕ) → put-joins-lts.Need-put-joins-requir
   put-join-reads.Asked,
   put-join-reads.Learnt,
 ) (put-joins-at t) put-joins.Post
-put-joins-put-joins-requires t c κs = ?
+put-joins-put-joins-requires t c κs = (outer-less (c .before .before .before .before .before .before .before .before .before .before .before .before .before .before .pre .1 .1 .0) _ (c .before .before .before .before .before .before .before .row-of .ensures .0) (c .before .before .before .before .before .before .before .row-of .ensures .1) (c .before .before .before .before .step-of .ensures) (c .before .before .join .given .1)  _ (c .before .before .before .before .before .before .before .before .before .before .before .before .before .before .pre .0) (c .before .before .before .before .before .before .before .before .before .before .before .before .before .before .pre .1 .1 .1), (c .before .before .before .before .before .before .before .before .before .before .before .before .before .before .pre .1 .0, c .before .before .before .before .before .before .before .before .before .before .before .before .before .before .pre .1 .1 .0, outer-fits (c .before .before .before .before .before .before .before .before .before .before .before .before .before .before .pre .1 .1 .0) _ (c .before .before .before .before .before .before .before .row-of .ensures .0) (c .before .before .before .before .before .before .before .row-of .ensures .1) (c .before .before .before .before .step-of .ensures) (c .before .before .join .given .1) (c .before .before .before .before .before .before .before .before .before .before .before .before .before .before .pre .1 .1 .1)))
 
--- src/joins.rt:72:17
 put-joins-put-joins-requires-2 : (t : ℕ) → put-joins-lts.Need-put-joins-requires-2 (
   row-of-reads.Asked,
   row-of-reads.Learnt,
@@ -148,9 +142,8 @@ put-joins-put-joins-requires-2 : (t : ℕ) → put-joins-lts.Need-put-joins-requ
   put-join-reads.Asked,
   put-join-reads.Learnt,
 ) (put-joins-at t) put-joins.Post
-put-joins-put-joins-requires-2 t c κs = ?
+put-joins-put-joins-requires-2 t c κs = (inner-less (c .before .before .before .before .before .before .before .before .before .before .before .before .before .before .before .before .before .before .pre .1 .1 .0) _ (c .before .before .before .before .before .before .before .before .before .before .before .row-of .ensures .0) (c .before .before .before .before .before .before .before .before .before .before .before .row-of .ensures .1) (c .before .before .before .before .before .before .before .before .step-of .ensures) (c .before .before .before .before .before .before .join .given .1)  _ (c .before .before .before .before .before .before .before .before .before .before .before .before .before .before .before .before .before .before .pre .0) (c .before .before .before .before .before .before .before .before .before .before .before .before .before .before .before .before .before .before .pre .1 .1 .1), (c .before .before .before .before .before .before .before .before .before .before .before .before .before .before .before .before .before .before .pre .1 .0, c .before .before .before .before .before .before .before .before .before .before .before .before .before .before .before .before .before .before .pre .1 .1 .0, inner-fits (c .before .before .before .before .before .before .before .before .before .before .before .before .before .before .before .before .before .before .pre .1 .1 .0) _ (c .before .before .before .before .before .before .before .before .before .before .before .row-of .ensures .0) (c .before .before .before .before .before .before .before .before .before .before .before .row-of .ensures .1) (c .before .before .before .before .before .before .before .before .step-of .ensures) (c .before .before .before .before .before .before .join .given .1) (c .before .before .before .put-joins .ensures _ (c .before .before .before .before .before .before .before .before .before .before .before .before .before .before .before .before .before .before .pre .1 .1 .0)) (c .before .before .before .before .before .before .before .before .before .before .before .before .before .before .before .before .before .before .pre .1 .1 .1)))
 
--- src/joins.rt:83:43
 put-joins-mul-put-join : (t : ℕ) → put-joins-lts.Need-mul-put-join (
   row-of-reads.Asked,
   row-of-reads.Learnt,
@@ -161,9 +154,8 @@ put-joins-mul-put-join : (t : ℕ) → put-joins-lts.Need-mul-put-join (
   put-join-reads.Asked,
   put-join-reads.Learnt,
 ) (put-joins-at t) put-joins.Post
-put-joins-mul-put-join t c = ?
+put-joins-mul-put-join t c = omega (arith, in-estimates (c .before .before .before .before .before .before .before .before .before .before .before .before .before .before .before .before .before .before .before .before .before .before .pre .1 .1 .0) _ (c .before .before .before .before .before .before .before .before .before .before .before .before .before .before .before .row-of .ensures .0))
 
--- src/joins.rt:83:43
 put-joins-shared-slice-read-put-join : (t : ℕ) → put-joins-lts.Need-shared-slice-read-put-join (
   row-of-reads.Asked,
   row-of-reads.Learnt,
@@ -174,9 +166,8 @@ put-joins-shared-slice-read-put-join : (t : ℕ) → put-joins-lts.Need-shared-s
   put-join-reads.Asked,
   put-join-reads.Learnt,
 ) (put-joins-at t) put-joins.Post
-put-joins-shared-slice-read-put-join t c = ?
+put-joins-shared-slice-read-put-join t c = in-estimates (c .before .before .before .before .before .before .before .before .before .before .before .before .before .before .before .before .before .before .before .before .before .before .before .pre .1 .1 .0) _ (c .before .before .before .before .before .before .before .before .before .before .before .before .before .before .before .before .row-of .ensures .0)
 
--- src/joins.rt:83:59
 put-joins-mul-put-join-2 : (t : ℕ) → put-joins-lts.Need-mul-put-join-2 (
   row-of-reads.Asked,
   row-of-reads.Learnt,
@@ -187,9 +178,8 @@ put-joins-mul-put-join-2 : (t : ℕ) → put-joins-lts.Need-mul-put-join-2 (
   put-join-reads.Asked,
   put-join-reads.Learnt,
 ) (put-joins-at t) put-joins.Post
-put-joins-mul-put-join-2 t c = ?
+put-joins-mul-put-join-2 t c = omega (arith, in-costs (c .before .before .before .before .before .before .before .before .before .before .before .before .before .before .before .before .before .before .before .before .before .before .before .pre .1 .1 .0) _ (c .before .before .before .before .before .before .before .before .before .before .before .before .before .before .before .before .row-of .ensures .0))
 
--- src/joins.rt:83:59
 put-joins-shared-slice-read-put-join-2 : (t : ℕ) → put-joins-lts.Need-shared-slice-read-put-join-2 (
   row-of-reads.Asked,
   row-of-reads.Learnt,
@@ -200,9 +190,8 @@ put-joins-shared-slice-read-put-join-2 : (t : ℕ) → put-joins-lts.Need-shared
   put-join-reads.Asked,
   put-join-reads.Learnt,
 ) (put-joins-at t) put-joins.Post
-put-joins-shared-slice-read-put-join-2 t c = ?
+put-joins-shared-slice-read-put-join-2 t c = in-costs (c .before .before .before .before .before .before .before .before .before .before .before .before .before .before .before .before .before .before .before .before .before .before .before .before .pre .1 .1 .0) _ (c .before .before .before .before .before .before .before .before .before .before .before .before .before .before .before .before .before .row-of .ensures .0)
 
--- src/joins.rt:83:13
 put-joins-put-join-requires : (t : ℕ) → put-joins-lts.Need-put-join-requires (
   row-of-reads.Asked,
   row-of-reads.Learnt,
@@ -213,9 +202,8 @@ put-joins-put-join-requires : (t : ℕ) → put-joins-lts.Need-put-join-requires
   put-join-reads.Asked,
   put-join-reads.Learnt,
 ) (put-joins-at t) put-joins.Post
-put-joins-put-join-requires t c κs = ?
+put-joins-put-join-requires t c κs = (own-fits (c .before .before .before .before .before .before .before .before .before .before .before .before .before .before .before .before .before .before .before .before .before .before .before .before .pre .1 .1 .0) _ (c .before .before .before .before .before .before .before .before .before .before .before .before .before .before .before .before .before .row-of .ensures .0) (c .before .before .before .before .before .before .before .before .before .before .before .before .before .before .before .before .before .row-of .ensures .1) (c .before .before .before .before .before .before .before .before .before .before .before .before .before .before .step-of .ensures) (c .before .before .before .before .before .before .before .before .before .before .before .before .join .given .1) (c .before .before .before .before .before .before .before .before .before .put-joins .ensures _ (c .before .before .before .before .before .before .before .before .before .before .before .before .before .before .before .before .before .before .before .before .before .before .before .before .pre .1 .1 .0)) (c .before .before .before .before .before .put-joins2 .ensures _ (c .before .before .before .before .before .before .before .before .before .before .before .before .before .before .before .before .before .before .before .before .before .before .before .before .pre .1 .1 .0)) (c .before .before .before .before .before .before .before .before .before .before .before .before .before .before .before .before .before .before .before .before .before .before .before .before .pre .1 .1 .1), few-tables (c .before .before .before .before .before .before .before .before .before .before .before .before .before .before .before .before .before .before .before .before .before .before .before .before .pre .1 .1 .0))
 
--- src/joins.rt:43:1
 put-joins-returns : (t : ℕ) → put-joins-lts.Need-returns (
   row-of-reads.Asked,
   row-of-reads.Learnt,
@@ -226,9 +214,8 @@ put-joins-returns : (t : ℕ) → put-joins-lts.Need-returns (
   put-join-reads.Asked,
   put-join-reads.Learnt,
 ) (put-joins-at t) put-joins.Post
-put-joins-returns t c = ?
+put-joins-returns t c = λ q k tree p f. scan-put k _ (c .before .before .before .before .before .row-of .ensures .0) (c .before .before .before .before .before .row-of .ensures .1) (c .before .before .step-of .ensures) (c .enum-told .given .1) _ _ tree p f
 
--- src/joins.rt:43:1
 put-joins-same-length : (t : ℕ) → put-joins-lts.Need-same-length (
   row-of-reads.Asked,
   row-of-reads.Learnt,
@@ -239,9 +226,8 @@ put-joins-same-length : (t : ℕ) → put-joins-lts.Need-same-length (
   put-join-reads.Asked,
   put-join-reads.Learnt,
 ) (put-joins-at t) put-joins.Post
-put-joins-same-length t c = ?
+put-joins-same-length t c = put-length (join-put (c .before .before .before .before .before .before .before .before .before .before .before .before .before .before .before .before .before .before .before .before .before .before .before .before .before .before .before .pre .1 .1 .0) _ (c .before .before .before .before .before .before .before .before .before .before .before .before .before .before .before .before .before .before .before .before .row-of .ensures .0) (c .before .before .before .before .before .before .before .before .before .before .before .before .before .before .before .before .before .before .before .before .row-of .ensures .1) (c .before .before .before .before .before .before .before .before .before .before .before .before .before .before .before .before .before .step-of .ensures) (c .before .before .before .before .before .before .before .before .before .before .before .before .before .before .before .join .given .1) (c .before .before .before .before .before .before .before .before .before .before .before .before .put-joins .ensures _ (c .before .before .before .before .before .before .before .before .before .before .before .before .before .before .before .before .before .before .before .before .before .before .before .before .before .before .before .pre .1 .1 .0)) (c .before .before .before .before .before .before .before .before .put-joins2 .ensures _ (c .before .before .before .before .before .before .before .before .before .before .before .before .before .before .before .before .before .before .before .before .before .before .before .before .before .before .before .pre .1 .1 .0)) (c .before .before .put-join .ensures) _ (c .before .before .before .before .before .before .before .before .before .before .before .before .before .before .before .before .before .before .before .before .before .before .before .before .before .before .before .pre .1 .1 .1 .picked) (c .before .before .before .before .before .before .before .before .before .before .before .before .before .before .before .before .before .before .before .before .before .before .before .before .before .before .before .pre .1 .1 .1 .covers))
 
--- src/joins.rt:43:1
 put-joins-returns-2 : (t : ℕ) → put-joins-lts.Need-returns-2 (
   row-of-reads.Asked,
   row-of-reads.Learnt,
@@ -252,7 +238,7 @@ put-joins-returns-2 : (t : ℕ) → put-joins-lts.Need-returns-2 (
   put-join-reads.Asked,
   put-join-reads.Learnt,
 ) (put-joins-at t) put-joins.Post
-put-joins-returns-2 t c = ?
+put-joins-returns-2 t c = λ q k tree p f. join-put k _ (c .before .before .before .before .before .before .before .before .before .before .before .before .before .before .before .before .before .before .before .before .row-of .ensures .0) (c .before .before .before .before .before .before .before .before .before .before .before .before .before .before .before .before .before .before .before .before .row-of .ensures .1) (c .before .before .before .before .before .before .before .before .before .before .before .before .before .before .before .before .before .step-of .ensures) (c .before .before .before .before .before .before .before .before .before .before .before .before .before .before .before .join .given .1) (c .before .before .before .before .before .before .before .before .before .before .before .before .put-joins .ensures q k) (c .before .before .before .before .before .before .before .before .put-joins2 .ensures q k) (c .before .before .put-join .ensures) tree p f
 
 pub +put-joins-spec : {M : Type 1} → statement M
 +put-joins-spec = close μ-put-joins λ t. put-joins-lts.spec (
