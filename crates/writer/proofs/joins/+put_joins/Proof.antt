@@ -34,7 +34,7 @@ put-joins-row-of-requires : (t : ℕ) → put-joins-lts.Need-row-of-requires (
   put-join-reads.Asked,
   put-join-reads.Learnt,
 ) (put-joins-at t) put-joins.Post
-put-joins-row-of-requires t c κs = row-stands (c .before .before .before .before .before .before .pre .1 .1 .0) (c .before .before .before .before .before .before .pre .1 .1 .1)
+put-joins-row-of-requires t c κs = row-stands (c .before .before .before .before .before .before .pre .1 .1) (c .before .before .before .before .before .before .pre .1 .2)
 
 put-joins-mul-step-of : (t : ℕ) → put-joins-lts.Need-mul-step-of (
   row-of-reads.Asked,
@@ -46,7 +46,7 @@ put-joins-mul-step-of : (t : ℕ) → put-joins-lts.Need-mul-step-of (
   put-join-reads.Asked,
   put-join-reads.Learnt,
 ) (put-joins-at t) put-joins.Post
-put-joins-mul-step-of t c = omega (arith, in-outers (c .before .before .before .before .before .before .before .pre .1 .1 .0) _ (c .row-of .ensures .0))
+put-joins-mul-step-of t c = omega (arith, in-outers (c .before .before .before .before .before .before .before .pre .1 .1) _ (c .row-of .ensures .0))
 
 put-joins-shared-slice-read-step-of : (t : ℕ) → put-joins-lts.Need-shared-slice-read-step-of (
   row-of-reads.Asked,
@@ -58,7 +58,7 @@ put-joins-shared-slice-read-step-of : (t : ℕ) → put-joins-lts.Need-shared-sl
   put-join-reads.Asked,
   put-join-reads.Learnt,
 ) (put-joins-at t) put-joins.Post
-put-joins-shared-slice-read-step-of t c = in-outers (c .before .before .before .before .before .before .before .before .pre .1 .1 .0) _ (c .before .row-of .ensures .0)
+put-joins-shared-slice-read-step-of t c = in-outers (c .before .before .before .before .before .before .before .before .pre .1 .1) _ (c .before .row-of .ensures .0)
 
 put-joins-mul-step-of-2 : (t : ℕ) → put-joins-lts.Need-mul-step-of-2 (
   row-of-reads.Asked,
@@ -70,7 +70,7 @@ put-joins-mul-step-of-2 : (t : ℕ) → put-joins-lts.Need-mul-step-of-2 (
   put-join-reads.Asked,
   put-join-reads.Learnt,
 ) (put-joins-at t) put-joins.Post
-put-joins-mul-step-of-2 t c = omega (arith, in-methods (c .before .before .before .before .before .before .before .before .pre .1 .1 .0) _ (c .before .row-of .ensures .0))
+put-joins-mul-step-of-2 t c = put-joins-mul-step-of t (c .before )
 
 put-joins-shared-slice-read-step-of-2 : (t : ℕ) → put-joins-lts.Need-shared-slice-read-step-of-2 (
   row-of-reads.Asked,
@@ -82,7 +82,7 @@ put-joins-shared-slice-read-step-of-2 : (t : ℕ) → put-joins-lts.Need-shared-
   put-join-reads.Asked,
   put-join-reads.Learnt,
 ) (put-joins-at t) put-joins.Post
-put-joins-shared-slice-read-step-of-2 t c = in-methods (c .before .before .before .before .before .before .before .before .before .pre .1 .1 .0) _ (c .before .before .row-of .ensures .0)
+put-joins-shared-slice-read-step-of-2 t c = in-methods (c .before .before .before .before .before .before .before .before .before .pre .1 .1) _ (c .before .before .row-of .ensures .0)
 
 put-joins-step-of-requires : (t : ℕ) → put-joins-lts.Need-step-of-requires (
   row-of-reads.Asked,
@@ -94,7 +94,7 @@ put-joins-step-of-requires : (t : ℕ) → put-joins-lts.Need-step-of-requires (
   put-join-reads.Asked,
   put-join-reads.Learnt,
 ) (put-joins-at t) put-joins.Post
-put-joins-step-of-requires t c κs = step-fits (c .before .before .before .before .before .before .before .before .before .pre .1 .1 .0) _ (c .before .before .row-of .ensures .0) (c .before .before .row-of .ensures .1) (c .before .before .before .before .before .before .before .before .before .pre .1 .1 .1)
+put-joins-step-of-requires t c κs = step-fits (c .before .before .before .before .before .before .before .before .before .pre .1 .1) _ (c .before .before .row-of .ensures .0) (c .before .before .row-of .ensures .1) (c .before .before .before .before .before .before .before .before .before .pre .1 .2)
 
 put-joins-enum-told : (t : ℕ) → put-joins-lts.Need-enum-told (
   row-of-reads.Asked,
@@ -130,7 +130,7 @@ put-joins-put-joins-requires : (t : ℕ) → put-joins-lts.Need-put-joins-requir
   put-join-reads.Asked,
   put-join-reads.Learnt,
 ) (put-joins-at t) put-joins.Post
-put-joins-put-joins-requires t c κs = (outer-less (c .before .before .before .before .before .before .before .before .before .before .before .before .before .before .pre .1 .1 .0) _ (c .before .before .before .before .before .before .before .row-of .ensures .0) (c .before .before .before .before .before .before .before .row-of .ensures .1) (c .before .before .before .before .step-of .ensures) (c .before .before .join .given .1)  _ (c .before .before .before .before .before .before .before .before .before .before .before .before .before .before .pre .0) (c .before .before .before .before .before .before .before .before .before .before .before .before .before .before .pre .1 .1 .1), (c .before .before .before .before .before .before .before .before .before .before .before .before .before .before .pre .1 .0, c .before .before .before .before .before .before .before .before .before .before .before .before .before .before .pre .1 .1 .0, outer-fits (c .before .before .before .before .before .before .before .before .before .before .before .before .before .before .pre .1 .1 .0) _ (c .before .before .before .before .before .before .before .row-of .ensures .0) (c .before .before .before .before .before .before .before .row-of .ensures .1) (c .before .before .before .before .step-of .ensures) (c .before .before .join .given .1) (c .before .before .before .before .before .before .before .before .before .before .before .before .before .before .pre .1 .1 .1)))
+put-joins-put-joins-requires t c κs = (outer-less (c .before .before .before .before .before .before .before .before .before .before .before .before .before .before .pre .1 .1) _ (c .before .before .before .before .before .before .before .row-of .ensures .0) (c .before .before .before .before .before .before .before .row-of .ensures .1) (c .before .before .before .before .step-of .ensures) (c .before .before .join .given .1)  _ (c .before .before .before .before .before .before .before .before .before .before .before .before .before .before .pre .0) (c .before .before .before .before .before .before .before .before .before .before .before .before .before .before .pre .1 .2), (c .before .before .before .before .before .before .before .before .before .before .before .before .before .before .pre .1 .0, c .before .before .before .before .before .before .before .before .before .before .before .before .before .before .pre .1 .1, outer-fits (c .before .before .before .before .before .before .before .before .before .before .before .before .before .before .pre .1 .1) _ (c .before .before .before .before .before .before .before .row-of .ensures .0) (c .before .before .before .before .before .before .before .row-of .ensures .1) (c .before .before .before .before .step-of .ensures) (c .before .before .join .given .1) (c .before .before .before .before .before .before .before .before .before .before .before .before .before .before .pre .1 .2)))
 
 put-joins-put-joins-requires-2 : (t : ℕ) → put-joins-lts.Need-put-joins-requires-2 (
   row-of-reads.Asked,
@@ -142,7 +142,7 @@ put-joins-put-joins-requires-2 : (t : ℕ) → put-joins-lts.Need-put-joins-requ
   put-join-reads.Asked,
   put-join-reads.Learnt,
 ) (put-joins-at t) put-joins.Post
-put-joins-put-joins-requires-2 t c κs = (inner-less (c .before .before .before .before .before .before .before .before .before .before .before .before .before .before .before .before .before .before .pre .1 .1 .0) _ (c .before .before .before .before .before .before .before .before .before .before .before .row-of .ensures .0) (c .before .before .before .before .before .before .before .before .before .before .before .row-of .ensures .1) (c .before .before .before .before .before .before .before .before .step-of .ensures) (c .before .before .before .before .before .before .join .given .1)  _ (c .before .before .before .before .before .before .before .before .before .before .before .before .before .before .before .before .before .before .pre .0) (c .before .before .before .before .before .before .before .before .before .before .before .before .before .before .before .before .before .before .pre .1 .1 .1), (c .before .before .before .before .before .before .before .before .before .before .before .before .before .before .before .before .before .before .pre .1 .0, c .before .before .before .before .before .before .before .before .before .before .before .before .before .before .before .before .before .before .pre .1 .1 .0, inner-fits (c .before .before .before .before .before .before .before .before .before .before .before .before .before .before .before .before .before .before .pre .1 .1 .0) _ (c .before .before .before .before .before .before .before .before .before .before .before .row-of .ensures .0) (c .before .before .before .before .before .before .before .before .before .before .before .row-of .ensures .1) (c .before .before .before .before .before .before .before .before .step-of .ensures) (c .before .before .before .before .before .before .join .given .1) (c .before .before .before .put-joins .ensures _ (c .before .before .before .before .before .before .before .before .before .before .before .before .before .before .before .before .before .before .pre .1 .1 .0)) (c .before .before .before .before .before .before .before .before .before .before .before .before .before .before .before .before .before .before .pre .1 .1 .1)))
+put-joins-put-joins-requires-2 t c κs = (inner-less (c .before .before .before .before .before .before .before .before .before .before .before .before .before .before .before .before .before .before .pre .1 .1) _ (c .before .before .before .before .before .before .before .before .before .before .before .row-of .ensures .0) (c .before .before .before .before .before .before .before .before .before .before .before .row-of .ensures .1) (c .before .before .before .before .before .before .before .before .step-of .ensures) (c .before .before .before .before .before .before .join .given .1)  _ (c .before .before .before .before .before .before .before .before .before .before .before .before .before .before .before .before .before .before .pre .0) (c .before .before .before .before .before .before .before .before .before .before .before .before .before .before .before .before .before .before .pre .1 .2), (c .before .before .before .before .before .before .before .before .before .before .before .before .before .before .before .before .before .before .pre .1 .0, c .before .before .before .before .before .before .before .before .before .before .before .before .before .before .before .before .before .before .pre .1 .1, inner-fits (c .before .before .before .before .before .before .before .before .before .before .before .before .before .before .before .before .before .before .pre .1 .1) _ (c .before .before .before .before .before .before .before .before .before .before .before .row-of .ensures .0) (c .before .before .before .before .before .before .before .before .before .before .before .row-of .ensures .1) (c .before .before .before .before .before .before .before .before .step-of .ensures) (c .before .before .before .before .before .before .join .given .1) (c .before .before .before .put-joins .ensures _ (c .before .before .before .before .before .before .before .before .before .before .before .before .before .before .before .before .before .before .pre .1 .1)) (c .before .before .before .before .before .before .before .before .before .before .before .before .before .before .before .before .before .before .pre .1 .2)))
 
 put-joins-mul-put-join : (t : ℕ) → put-joins-lts.Need-mul-put-join (
   row-of-reads.Asked,
@@ -154,7 +154,7 @@ put-joins-mul-put-join : (t : ℕ) → put-joins-lts.Need-mul-put-join (
   put-join-reads.Asked,
   put-join-reads.Learnt,
 ) (put-joins-at t) put-joins.Post
-put-joins-mul-put-join t c = omega (arith, in-estimates (c .before .before .before .before .before .before .before .before .before .before .before .before .before .before .before .before .before .before .before .before .before .before .pre .1 .1 .0) _ (c .before .before .before .before .before .before .before .before .before .before .before .before .before .before .before .row-of .ensures .0))
+put-joins-mul-put-join t c = put-joins-mul-step-of t (c .before .before .before .before .before .before .before .before .before .before .before .before .before .before .before )
 
 put-joins-shared-slice-read-put-join : (t : ℕ) → put-joins-lts.Need-shared-slice-read-put-join (
   row-of-reads.Asked,
@@ -166,7 +166,7 @@ put-joins-shared-slice-read-put-join : (t : ℕ) → put-joins-lts.Need-shared-s
   put-join-reads.Asked,
   put-join-reads.Learnt,
 ) (put-joins-at t) put-joins.Post
-put-joins-shared-slice-read-put-join t c = in-estimates (c .before .before .before .before .before .before .before .before .before .before .before .before .before .before .before .before .before .before .before .before .before .before .before .pre .1 .1 .0) _ (c .before .before .before .before .before .before .before .before .before .before .before .before .before .before .before .before .row-of .ensures .0)
+put-joins-shared-slice-read-put-join t c = in-estimates (c .before .before .before .before .before .before .before .before .before .before .before .before .before .before .before .before .before .before .before .before .before .before .before .pre .1 .1) _ (c .before .before .before .before .before .before .before .before .before .before .before .before .before .before .before .before .row-of .ensures .0)
 
 put-joins-mul-put-join-2 : (t : ℕ) → put-joins-lts.Need-mul-put-join-2 (
   row-of-reads.Asked,
@@ -178,7 +178,7 @@ put-joins-mul-put-join-2 : (t : ℕ) → put-joins-lts.Need-mul-put-join-2 (
   put-join-reads.Asked,
   put-join-reads.Learnt,
 ) (put-joins-at t) put-joins.Post
-put-joins-mul-put-join-2 t c = omega (arith, in-costs (c .before .before .before .before .before .before .before .before .before .before .before .before .before .before .before .before .before .before .before .before .before .before .before .pre .1 .1 .0) _ (c .before .before .before .before .before .before .before .before .before .before .before .before .before .before .before .before .row-of .ensures .0))
+put-joins-mul-put-join-2 t c = put-joins-mul-step-of t (c .before .before .before .before .before .before .before .before .before .before .before .before .before .before .before .before )
 
 put-joins-shared-slice-read-put-join-2 : (t : ℕ) → put-joins-lts.Need-shared-slice-read-put-join-2 (
   row-of-reads.Asked,
@@ -190,7 +190,7 @@ put-joins-shared-slice-read-put-join-2 : (t : ℕ) → put-joins-lts.Need-shared
   put-join-reads.Asked,
   put-join-reads.Learnt,
 ) (put-joins-at t) put-joins.Post
-put-joins-shared-slice-read-put-join-2 t c = in-costs (c .before .before .before .before .before .before .before .before .before .before .before .before .before .before .before .before .before .before .before .before .before .before .before .before .pre .1 .1 .0) _ (c .before .before .before .before .before .before .before .before .before .before .before .before .before .before .before .before .before .row-of .ensures .0)
+put-joins-shared-slice-read-put-join-2 t c = in-costs (c .before .before .before .before .before .before .before .before .before .before .before .before .before .before .before .before .before .before .before .before .before .before .before .before .pre .1 .1) _ (c .before .before .before .before .before .before .before .before .before .before .before .before .before .before .before .before .before .row-of .ensures .0)
 
 put-joins-put-join-requires : (t : ℕ) → put-joins-lts.Need-put-join-requires (
   row-of-reads.Asked,
@@ -202,7 +202,7 @@ put-joins-put-join-requires : (t : ℕ) → put-joins-lts.Need-put-join-requires
   put-join-reads.Asked,
   put-join-reads.Learnt,
 ) (put-joins-at t) put-joins.Post
-put-joins-put-join-requires t c κs = (own-fits (c .before .before .before .before .before .before .before .before .before .before .before .before .before .before .before .before .before .before .before .before .before .before .before .before .pre .1 .1 .0) _ (c .before .before .before .before .before .before .before .before .before .before .before .before .before .before .before .before .before .row-of .ensures .0) (c .before .before .before .before .before .before .before .before .before .before .before .before .before .before .before .before .before .row-of .ensures .1) (c .before .before .before .before .before .before .before .before .before .before .before .before .before .before .step-of .ensures) (c .before .before .before .before .before .before .before .before .before .before .before .before .join .given .1) (c .before .before .before .before .before .before .before .before .before .put-joins .ensures _ (c .before .before .before .before .before .before .before .before .before .before .before .before .before .before .before .before .before .before .before .before .before .before .before .before .pre .1 .1 .0)) (c .before .before .before .before .before .put-joins2 .ensures _ (c .before .before .before .before .before .before .before .before .before .before .before .before .before .before .before .before .before .before .before .before .before .before .before .before .pre .1 .1 .0)) (c .before .before .before .before .before .before .before .before .before .before .before .before .before .before .before .before .before .before .before .before .before .before .before .before .pre .1 .1 .1), few-tables (c .before .before .before .before .before .before .before .before .before .before .before .before .before .before .before .before .before .before .before .before .before .before .before .before .pre .1 .1 .0))
+put-joins-put-join-requires t c κs = (own-fits (c .before .before .before .before .before .before .before .before .before .before .before .before .before .before .before .before .before .before .before .before .before .before .before .before .pre .1 .1) _ (c .before .before .before .before .before .before .before .before .before .before .before .before .before .before .before .before .before .row-of .ensures .0) (c .before .before .before .before .before .before .before .before .before .before .before .before .before .before .before .before .before .row-of .ensures .1) (c .before .before .before .before .before .before .before .before .before .before .before .before .before .before .step-of .ensures) (c .before .before .before .before .before .before .before .before .before .before .before .before .join .given .1) (c .before .before .before .before .before .before .before .before .before .put-joins .ensures _ (c .before .before .before .before .before .before .before .before .before .before .before .before .before .before .before .before .before .before .before .before .before .before .before .before .pre .1 .1)) (c .before .before .before .before .before .put-joins2 .ensures _ (c .before .before .before .before .before .before .before .before .before .before .before .before .before .before .before .before .before .before .before .before .before .before .before .before .pre .1 .1)) (c .before .before .before .before .before .before .before .before .before .before .before .before .before .before .before .before .before .before .before .before .before .before .before .before .pre .1 .2), few-tables (c .before .before .before .before .before .before .before .before .before .before .before .before .before .before .before .before .before .before .before .before .before .before .before .before .pre .1 .1))
 
 put-joins-returns : (t : ℕ) → put-joins-lts.Need-returns (
   row-of-reads.Asked,
@@ -226,7 +226,7 @@ put-joins-same-length : (t : ℕ) → put-joins-lts.Need-same-length (
   put-join-reads.Asked,
   put-join-reads.Learnt,
 ) (put-joins-at t) put-joins.Post
-put-joins-same-length t c = put-length (join-put (c .before .before .before .before .before .before .before .before .before .before .before .before .before .before .before .before .before .before .before .before .before .before .before .before .before .before .before .pre .1 .1 .0) _ (c .before .before .before .before .before .before .before .before .before .before .before .before .before .before .before .before .before .before .before .before .row-of .ensures .0) (c .before .before .before .before .before .before .before .before .before .before .before .before .before .before .before .before .before .before .before .before .row-of .ensures .1) (c .before .before .before .before .before .before .before .before .before .before .before .before .before .before .before .before .before .step-of .ensures) (c .before .before .before .before .before .before .before .before .before .before .before .before .before .before .before .join .given .1) (c .before .before .before .before .before .before .before .before .before .before .before .before .put-joins .ensures _ (c .before .before .before .before .before .before .before .before .before .before .before .before .before .before .before .before .before .before .before .before .before .before .before .before .before .before .before .pre .1 .1 .0)) (c .before .before .before .before .before .before .before .before .put-joins2 .ensures _ (c .before .before .before .before .before .before .before .before .before .before .before .before .before .before .before .before .before .before .before .before .before .before .before .before .before .before .before .pre .1 .1 .0)) (c .before .before .put-join .ensures) _ (c .before .before .before .before .before .before .before .before .before .before .before .before .before .before .before .before .before .before .before .before .before .before .before .before .before .before .before .pre .1 .1 .1 .picked) (c .before .before .before .before .before .before .before .before .before .before .before .before .before .before .before .before .before .before .before .before .before .before .before .before .before .before .before .pre .1 .1 .1 .covers))
+put-joins-same-length t c = put-length (join-put (c .before .before .before .before .before .before .before .before .before .before .before .before .before .before .before .before .before .before .before .before .before .before .before .before .before .before .before .pre .1 .1) _ (c .before .before .before .before .before .before .before .before .before .before .before .before .before .before .before .before .before .before .before .before .row-of .ensures .0) (c .before .before .before .before .before .before .before .before .before .before .before .before .before .before .before .before .before .before .before .before .row-of .ensures .1) (c .before .before .before .before .before .before .before .before .before .before .before .before .before .before .before .before .before .step-of .ensures) (c .before .before .before .before .before .before .before .before .before .before .before .before .before .before .before .join .given .1) (c .before .before .before .before .before .before .before .before .before .before .before .before .put-joins .ensures _ (c .before .before .before .before .before .before .before .before .before .before .before .before .before .before .before .before .before .before .before .before .before .before .before .before .before .before .before .pre .1 .1)) (c .before .before .before .before .before .before .before .before .put-joins2 .ensures _ (c .before .before .before .before .before .before .before .before .before .before .before .before .before .before .before .before .before .before .before .before .before .before .before .before .before .before .before .pre .1 .1)) (c .before .before .put-join .ensures) _ (c .before .before .before .before .before .before .before .before .before .before .before .before .before .before .before .before .before .before .before .before .before .before .before .before .before .before .before .pre .1 .2 .picked) (c .before .before .before .before .before .before .before .before .before .before .before .before .before .before .before .before .before .before .before .before .before .before .before .before .before .before .before .pre .1 .2 .covers))
 
 put-joins-returns-2 : (t : ℕ) → put-joins-lts.Need-returns-2 (
   row-of-reads.Asked,
