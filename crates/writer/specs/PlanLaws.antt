@@ -1,7 +1,7 @@
 -- A plan's joins: the row of a set, the root that it tells, and the parts of that root.
 use mathlib.Core.Path.{_≡_, refl, sym, ap, _∙_, subst}
-use mathlib.Core.List.{List, List·Memᴰ, [], _∷_, _++_}
-use Prim.Native.Nat.{ℕ, zero, suc, _+_, _-_, _^_, _≤_, _<_}
+use mathlib.Core.List.{List, List·Memᴰ, [], _++_}
+use Prim.Native.Nat.{ℕ, _+_, _-_, _^_, _≤_, _<_}
 use native.Mathlib.Nat.{pow-le-pow-right}
 use native.Mathlib.Decide.{ℕ-discrete}
 use native.Mathlib.Omega.{arith}
@@ -10,19 +10,19 @@ use lib.ListN.{length, getD}
 use Rattle.rules.specs.declared.Step.{Step}
 use Rattle.rules.specs.declared.Step.the-variants.{Scan, Join}
 use Rattle.rules.specs.declared.JoinStep.{JoinStep}
-use Rattle.rules.specs.Sets.{single, size, Lowest, holds}
+use Rattle.rules.specs.Sets.{size, Lowest, holds}
 use Rattle.rules.specs.Query.{Query, tableCount}
 use Rattle.rules.specs.Estimate.{estimate}
 use Rattle.rules.specs.Rows.{memo}
 use Rattle.rules.specs.Answers.{Row}
-use Rattle.rules.specs.Trees.{Tree, scan, join, tablesOf, stepOf, costOf, Picked, Pick}
+use Rattle.rules.specs.Trees.{Tree, scan, join, tablesOf, stepOf, costOf, Picked}
 use Rattle.rules.specs.Writing.{joinLine, joinLines}
 use Rattle.rules.specs.laws.Sets.{size-pow, size-sum, size-pos, holds-single-only}
 use Rattle.rules.specs.laws.Bellman.{tablesOf-pos, least-unique, pick-unique}
 use Rattle.rules.specs.laws.Picked.{picked-parts, picked-in, picked-below, picked-least}
 use Rattle.writer.specs.Put.{Put}
 use Rattle.writer.specs.Plans.{Rooted, Kept, ToPut}
-use Rattle.writer.specs.PutLaws.{put-none, put-then, put-as, put-length, Room, room-of, room-first, room-then}
+use Rattle.writer.specs.PutLaws.{put-none, put-then, put-as, Room, room-of, room-first, room-then}
 
 -- ---- looking for a row
 -- the row of S is the place, or behind it

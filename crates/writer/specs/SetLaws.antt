@@ -3,13 +3,13 @@ use mathlib.Core.Path.{_≡_, refl, sym, ap, _∙_}
 use mathlib.Core.Bool.{Bool, true, false, cond}
 use mathlib.Core.List.{List, [], _∷_, _++_, map, append-nil, append-assoc}
 use Prim.Native.Nat.{ℕ, zero, suc, _+_, _-_, _/_, _%_, _≤_, _<_}
-use native.Mathlib.Nat.{not-suc-le-zero, add-zero, add-suc, suc-add}
+use native.Mathlib.Nat.{not-suc-le-zero, add-zero, add-suc}
 use native.Mathlib.Numerals.{one-add}
 use native.Mathlib.Omega.{arith}
 use lib.Dec.{eqb, ltb}
 use lib.ListN.{length, length-append}
 use borrow.Author.Tests.{lt-ltb, le-ltb}
-use Rattle.rules.specs.Sets.{holds, has, tablesFrom, tables}
+use Rattle.rules.specs.Sets.{has, tablesFrom, tables}
 use Rattle.rules.specs.Writing.{comma, digitsOf, follow, joined, setText}
 use Rattle.rules.specs.laws.Sets.{bit, holds-bit}
 use Rattle.writer.specs.Put.{Put}

@@ -34,7 +34,9 @@ put-joins-row-of-requires : (t : ℕ) → put-joins-lts.Need-row-of-requires (
   put-join-reads.Asked,
   put-join-reads.Learnt,
 ) (put-joins-at t) put-joins.Post
-put-joins-row-of-requires t c κs = row-stands (c .before .before .before .before .before .before .pre .1 .1) (c .before .before .before .before .before .before .pre .1 .2)
+put-joins-row-of-requires t c κs =
+    let s = c .before .before .before .before .before .before in
+    row-stands (s .pre .1 .1) (s .pre .1 .2)
 
 put-joins-mul-step-of : (t : ℕ) → put-joins-lts.Need-mul-step-of (
   row-of-reads.Asked,
@@ -46,7 +48,10 @@ put-joins-mul-step-of : (t : ℕ) → put-joins-lts.Need-mul-step-of (
   put-join-reads.Asked,
   put-join-reads.Learnt,
 ) (put-joins-at t) put-joins.Post
-put-joins-mul-step-of t c = omega (arith, in-outers (c .before .before .before .before .before .before .before .pre .1 .1) _ (c .row-of .ensures .0))
+put-joins-mul-step-of t c =
+    let r = c in
+    let s = r .before .before .before .before .before .before .before in
+    omega (arith, in-outers (s .pre .1 .1) (r .row-of .result) (r .row-of .ensures .0))
 
 put-joins-shared-slice-read-step-of : (t : ℕ) → put-joins-lts.Need-shared-slice-read-step-of (
   row-of-reads.Asked,
@@ -58,7 +63,10 @@ put-joins-shared-slice-read-step-of : (t : ℕ) → put-joins-lts.Need-shared-sl
   put-join-reads.Asked,
   put-join-reads.Learnt,
 ) (put-joins-at t) put-joins.Post
-put-joins-shared-slice-read-step-of t c = in-outers (c .before .before .before .before .before .before .before .before .pre .1 .1) _ (c .before .row-of .ensures .0)
+put-joins-shared-slice-read-step-of t c =
+    let r = c .before in
+    let s = r .before .before .before .before .before .before .before in
+    in-outers (s .pre .1 .1) (r .row-of .result) (r .row-of .ensures .0)
 
 put-joins-mul-step-of-2 : (t : ℕ) → put-joins-lts.Need-mul-step-of-2 (
   row-of-reads.Asked,
@@ -70,7 +78,9 @@ put-joins-mul-step-of-2 : (t : ℕ) → put-joins-lts.Need-mul-step-of-2 (
   put-join-reads.Asked,
   put-join-reads.Learnt,
 ) (put-joins-at t) put-joins.Post
-put-joins-mul-step-of-2 t c = put-joins-mul-step-of t (c .before )
+put-joins-mul-step-of-2 t c =
+    let r = c .before in
+    put-joins-mul-step-of t r
 
 put-joins-shared-slice-read-step-of-2 : (t : ℕ) → put-joins-lts.Need-shared-slice-read-step-of-2 (
   row-of-reads.Asked,
@@ -82,7 +92,10 @@ put-joins-shared-slice-read-step-of-2 : (t : ℕ) → put-joins-lts.Need-shared-
   put-join-reads.Asked,
   put-join-reads.Learnt,
 ) (put-joins-at t) put-joins.Post
-put-joins-shared-slice-read-step-of-2 t c = in-methods (c .before .before .before .before .before .before .before .before .before .pre .1 .1) _ (c .before .before .row-of .ensures .0)
+put-joins-shared-slice-read-step-of-2 t c =
+    let r = c .before .before in
+    let s = r .before .before .before .before .before .before .before in
+    in-methods (s .pre .1 .1) (r .row-of .result) (r .row-of .ensures .0)
 
 put-joins-step-of-requires : (t : ℕ) → put-joins-lts.Need-step-of-requires (
   row-of-reads.Asked,
@@ -94,7 +107,10 @@ put-joins-step-of-requires : (t : ℕ) → put-joins-lts.Need-step-of-requires (
   put-join-reads.Asked,
   put-join-reads.Learnt,
 ) (put-joins-at t) put-joins.Post
-put-joins-step-of-requires t c κs = step-fits (c .before .before .before .before .before .before .before .before .before .pre .1 .1) _ (c .before .before .row-of .ensures .0) (c .before .before .row-of .ensures .1) (c .before .before .before .before .before .before .before .before .before .pre .1 .2)
+put-joins-step-of-requires t c κs =
+    let r = c .before .before in
+    let s = r .before .before .before .before .before .before .before in
+    step-fits (s .pre .1 .1) (r .row-of .result) (r .row-of .ensures .0) (r .row-of .ensures .1) (s .pre .1 .2)
 
 put-joins-enum-told : (t : ℕ) → put-joins-lts.Need-enum-told (
   row-of-reads.Asked,
@@ -130,7 +146,12 @@ put-joins-put-joins-requires : (t : ℕ) → put-joins-lts.Need-put-joins-requir
   put-join-reads.Asked,
   put-join-reads.Learnt,
 ) (put-joins-at t) put-joins.Post
-put-joins-put-joins-requires t c κs = (outer-less (c .before .before .before .before .before .before .before .before .before .before .before .before .before .before .pre .1 .1) _ (c .before .before .before .before .before .before .before .row-of .ensures .0) (c .before .before .before .before .before .before .before .row-of .ensures .1) (c .before .before .before .before .step-of .ensures) (c .before .before .join .given .1)  _ (c .before .before .before .before .before .before .before .before .before .before .before .before .before .before .pre .0) (c .before .before .before .before .before .before .before .before .before .before .before .before .before .before .pre .1 .2), (c .before .before .before .before .before .before .before .before .before .before .before .before .before .before .pre .1 .0, c .before .before .before .before .before .before .before .before .before .before .before .before .before .before .pre .1 .1, outer-fits (c .before .before .before .before .before .before .before .before .before .before .before .before .before .before .pre .1 .1) _ (c .before .before .before .before .before .before .before .row-of .ensures .0) (c .before .before .before .before .before .before .before .row-of .ensures .1) (c .before .before .before .before .step-of .ensures) (c .before .before .join .given .1) (c .before .before .before .before .before .before .before .before .before .before .before .before .before .before .pre .1 .2)))
+put-joins-put-joins-requires t c κs =
+    let j = c .before .before in
+    let w = j .before .before in
+    let r = w .before .before .before in
+    let s = r .before .before .before .before .before .before .before in
+    (outer-less (s .pre .1 .1) (r .row-of .result) (r .row-of .ensures .0) (r .row-of .ensures .1) (w .step-of .ensures) (j .join .given .1) t (s .pre .0) (s .pre .1 .2), (s .pre .1 .0, s .pre .1 .1, outer-fits (s .pre .1 .1) (r .row-of .result) (r .row-of .ensures .0) (r .row-of .ensures .1) (w .step-of .ensures) (j .join .given .1) (s .pre .1 .2)))
 
 put-joins-put-joins-requires-2 : (t : ℕ) → put-joins-lts.Need-put-joins-requires-2 (
   row-of-reads.Asked,
@@ -142,7 +163,13 @@ put-joins-put-joins-requires-2 : (t : ℕ) → put-joins-lts.Need-put-joins-requ
   put-join-reads.Asked,
   put-join-reads.Learnt,
 ) (put-joins-at t) put-joins.Post
-put-joins-put-joins-requires-2 t c κs = (inner-less (c .before .before .before .before .before .before .before .before .before .before .before .before .before .before .before .before .before .before .pre .1 .1) _ (c .before .before .before .before .before .before .before .before .before .before .before .row-of .ensures .0) (c .before .before .before .before .before .before .before .before .before .before .before .row-of .ensures .1) (c .before .before .before .before .before .before .before .before .step-of .ensures) (c .before .before .before .before .before .before .join .given .1)  _ (c .before .before .before .before .before .before .before .before .before .before .before .before .before .before .before .before .before .before .pre .0) (c .before .before .before .before .before .before .before .before .before .before .before .before .before .before .before .before .before .before .pre .1 .2), (c .before .before .before .before .before .before .before .before .before .before .before .before .before .before .before .before .before .before .pre .1 .0, c .before .before .before .before .before .before .before .before .before .before .before .before .before .before .before .before .before .before .pre .1 .1, inner-fits (c .before .before .before .before .before .before .before .before .before .before .before .before .before .before .before .before .before .before .pre .1 .1) _ (c .before .before .before .before .before .before .before .before .before .before .before .row-of .ensures .0) (c .before .before .before .before .before .before .before .before .before .before .before .row-of .ensures .1) (c .before .before .before .before .before .before .before .before .step-of .ensures) (c .before .before .before .before .before .before .join .given .1) (c .before .before .before .put-joins .ensures _ (c .before .before .before .before .before .before .before .before .before .before .before .before .before .before .before .before .before .before .pre .1 .1)) (c .before .before .before .before .before .before .before .before .before .before .before .before .before .before .before .before .before .before .pre .1 .2)))
+put-joins-put-joins-requires-2 t c κs =
+    let x = c .before .before .before in
+    let j = x .before .before .before in
+    let w = j .before .before in
+    let r = w .before .before .before in
+    let s = r .before .before .before .before .before .before .before in
+    (inner-less (s .pre .1 .1) (r .row-of .result) (r .row-of .ensures .0) (r .row-of .ensures .1) (w .step-of .ensures) (j .join .given .1) t (s .pre .0) (s .pre .1 .2), (s .pre .1 .0, s .pre .1 .1, inner-fits (s .pre .1 .1) (r .row-of .result) (r .row-of .ensures .0) (r .row-of .ensures .1) (w .step-of .ensures) (j .join .given .1) (x .put-joins .ensures (s .pre .1 .0) (s .pre .1 .1)) (s .pre .1 .2)))
 
 put-joins-mul-put-join : (t : ℕ) → put-joins-lts.Need-mul-put-join (
   row-of-reads.Asked,
@@ -154,7 +181,9 @@ put-joins-mul-put-join : (t : ℕ) → put-joins-lts.Need-mul-put-join (
   put-join-reads.Asked,
   put-join-reads.Learnt,
 ) (put-joins-at t) put-joins.Post
-put-joins-mul-put-join t c = put-joins-mul-step-of t (c .before .before .before .before .before .before .before .before .before .before .before .before .before .before .before )
+put-joins-mul-put-join t c =
+    let r = c .before .before .before .before .before .before .before .before .before .before .before .before .before .before .before in
+    put-joins-mul-step-of t r
 
 put-joins-shared-slice-read-put-join : (t : ℕ) → put-joins-lts.Need-shared-slice-read-put-join (
   row-of-reads.Asked,
@@ -166,7 +195,10 @@ put-joins-shared-slice-read-put-join : (t : ℕ) → put-joins-lts.Need-shared-s
   put-join-reads.Asked,
   put-join-reads.Learnt,
 ) (put-joins-at t) put-joins.Post
-put-joins-shared-slice-read-put-join t c = in-estimates (c .before .before .before .before .before .before .before .before .before .before .before .before .before .before .before .before .before .before .before .before .before .before .before .pre .1 .1) _ (c .before .before .before .before .before .before .before .before .before .before .before .before .before .before .before .before .row-of .ensures .0)
+put-joins-shared-slice-read-put-join t c =
+    let r = c .before .before .before .before .before .before .before .before .before .before .before .before .before .before .before .before in
+    let s = r .before .before .before .before .before .before .before in
+    in-estimates (s .pre .1 .1) (r .row-of .result) (r .row-of .ensures .0)
 
 put-joins-mul-put-join-2 : (t : ℕ) → put-joins-lts.Need-mul-put-join-2 (
   row-of-reads.Asked,
@@ -178,7 +210,9 @@ put-joins-mul-put-join-2 : (t : ℕ) → put-joins-lts.Need-mul-put-join-2 (
   put-join-reads.Asked,
   put-join-reads.Learnt,
 ) (put-joins-at t) put-joins.Post
-put-joins-mul-put-join-2 t c = put-joins-mul-step-of t (c .before .before .before .before .before .before .before .before .before .before .before .before .before .before .before .before )
+put-joins-mul-put-join-2 t c =
+    let r = c .before .before .before .before .before .before .before .before .before .before .before .before .before .before .before .before in
+    put-joins-mul-step-of t r
 
 put-joins-shared-slice-read-put-join-2 : (t : ℕ) → put-joins-lts.Need-shared-slice-read-put-join-2 (
   row-of-reads.Asked,
@@ -190,7 +224,10 @@ put-joins-shared-slice-read-put-join-2 : (t : ℕ) → put-joins-lts.Need-shared
   put-join-reads.Asked,
   put-join-reads.Learnt,
 ) (put-joins-at t) put-joins.Post
-put-joins-shared-slice-read-put-join-2 t c = in-costs (c .before .before .before .before .before .before .before .before .before .before .before .before .before .before .before .before .before .before .before .before .before .before .before .before .pre .1 .1) _ (c .before .before .before .before .before .before .before .before .before .before .before .before .before .before .before .before .before .row-of .ensures .0)
+put-joins-shared-slice-read-put-join-2 t c =
+    let r = c .before .before .before .before .before .before .before .before .before .before .before .before .before .before .before .before .before in
+    let s = r .before .before .before .before .before .before .before in
+    in-costs (s .pre .1 .1) (r .row-of .result) (r .row-of .ensures .0)
 
 put-joins-put-join-requires : (t : ℕ) → put-joins-lts.Need-put-join-requires (
   row-of-reads.Asked,
@@ -202,7 +239,14 @@ put-joins-put-join-requires : (t : ℕ) → put-joins-lts.Need-put-join-requires
   put-join-reads.Asked,
   put-join-reads.Learnt,
 ) (put-joins-at t) put-joins.Post
-put-joins-put-join-requires t c κs = (own-fits (c .before .before .before .before .before .before .before .before .before .before .before .before .before .before .before .before .before .before .before .before .before .before .before .before .pre .1 .1) _ (c .before .before .before .before .before .before .before .before .before .before .before .before .before .before .before .before .before .row-of .ensures .0) (c .before .before .before .before .before .before .before .before .before .before .before .before .before .before .before .before .before .row-of .ensures .1) (c .before .before .before .before .before .before .before .before .before .before .before .before .before .before .step-of .ensures) (c .before .before .before .before .before .before .before .before .before .before .before .before .join .given .1) (c .before .before .before .before .before .before .before .before .before .put-joins .ensures _ (c .before .before .before .before .before .before .before .before .before .before .before .before .before .before .before .before .before .before .before .before .before .before .before .before .pre .1 .1)) (c .before .before .before .before .before .put-joins2 .ensures _ (c .before .before .before .before .before .before .before .before .before .before .before .before .before .before .before .before .before .before .before .before .before .before .before .before .pre .1 .1)) (c .before .before .before .before .before .before .before .before .before .before .before .before .before .before .before .before .before .before .before .before .before .before .before .before .pre .1 .2), few-tables (c .before .before .before .before .before .before .before .before .before .before .before .before .before .before .before .before .before .before .before .before .before .before .before .before .pre .1 .1))
+put-joins-put-join-requires t c κs =
+    let y = c .before .before .before .before .before in
+    let x = y .before .before .before .before in
+    let j = x .before .before .before in
+    let w = j .before .before in
+    let r = w .before .before .before in
+    let s = r .before .before .before .before .before .before .before in
+    (own-fits (s .pre .1 .1) (r .row-of .result) (r .row-of .ensures .0) (r .row-of .ensures .1) (w .step-of .ensures) (j .join .given .1) (x .put-joins .ensures (s .pre .1 .0) (s .pre .1 .1)) (y .put-joins2 .ensures (s .pre .1 .0) (s .pre .1 .1)) (s .pre .1 .2), few-tables (s .pre .1 .1))
 
 put-joins-returns : (t : ℕ) → put-joins-lts.Need-returns (
   row-of-reads.Asked,
@@ -214,7 +258,11 @@ put-joins-returns : (t : ℕ) → put-joins-lts.Need-returns (
   put-join-reads.Asked,
   put-join-reads.Learnt,
 ) (put-joins-at t) put-joins.Post
-put-joins-returns t c = λ q k tree p f. scan-put k _ (c .before .before .before .before .before .row-of .ensures .0) (c .before .before .before .before .before .row-of .ensures .1) (c .before .before .step-of .ensures) (c .enum-told .given .1) _ _ tree p f
+put-joins-returns t c =
+    let w = c .before .before in
+    let r = w .before .before .before in
+    let s = r .before .before .before .before .before .before .before in
+    λ q k tree p f. scan-put k (r .row-of .result) (r .row-of .ensures .0) (r .row-of .ensures .1) (w .step-of .ensures) (c .enum-told .given .1) (s .args .out .now) (s .args .at) tree p f
 
 put-joins-same-length : (t : ℕ) → put-joins-lts.Need-same-length (
   row-of-reads.Asked,
@@ -226,7 +274,14 @@ put-joins-same-length : (t : ℕ) → put-joins-lts.Need-same-length (
   put-join-reads.Asked,
   put-join-reads.Learnt,
 ) (put-joins-at t) put-joins.Post
-put-joins-same-length t c = put-length (join-put (c .before .before .before .before .before .before .before .before .before .before .before .before .before .before .before .before .before .before .before .before .before .before .before .before .before .before .before .pre .1 .1) _ (c .before .before .before .before .before .before .before .before .before .before .before .before .before .before .before .before .before .before .before .before .row-of .ensures .0) (c .before .before .before .before .before .before .before .before .before .before .before .before .before .before .before .before .before .before .before .before .row-of .ensures .1) (c .before .before .before .before .before .before .before .before .before .before .before .before .before .before .before .before .before .step-of .ensures) (c .before .before .before .before .before .before .before .before .before .before .before .before .before .before .before .join .given .1) (c .before .before .before .before .before .before .before .before .before .before .before .before .put-joins .ensures _ (c .before .before .before .before .before .before .before .before .before .before .before .before .before .before .before .before .before .before .before .before .before .before .before .before .before .before .before .pre .1 .1)) (c .before .before .before .before .before .before .before .before .put-joins2 .ensures _ (c .before .before .before .before .before .before .before .before .before .before .before .before .before .before .before .before .before .before .before .before .before .before .before .before .before .before .before .pre .1 .1)) (c .before .before .put-join .ensures) _ (c .before .before .before .before .before .before .before .before .before .before .before .before .before .before .before .before .before .before .before .before .before .before .before .before .before .before .before .pre .1 .2 .picked) (c .before .before .before .before .before .before .before .before .before .before .before .before .before .before .before .before .before .before .before .before .before .before .before .before .before .before .before .pre .1 .2 .covers))
+put-joins-same-length t c =
+    let y = c .before .before .before .before .before .before .before .before in
+    let x = y .before .before .before .before in
+    let j = x .before .before .before in
+    let w = j .before .before in
+    let r = w .before .before .before in
+    let s = r .before .before .before .before .before .before .before in
+    put-length (join-put (s .pre .1 .1) (r .row-of .result) (r .row-of .ensures .0) (r .row-of .ensures .1) (w .step-of .ensures) (j .join .given .1) (x .put-joins .ensures (s .pre .1 .0) (s .pre .1 .1)) (y .put-joins2 .ensures (s .pre .1 .0) (s .pre .1 .1)) (c .before .before .put-join .ensures) (s .pre .1 .2 .tree) (s .pre .1 .2 .picked) (s .pre .1 .2 .covers))
 
 put-joins-returns-2 : (t : ℕ) → put-joins-lts.Need-returns-2 (
   row-of-reads.Asked,
@@ -238,7 +293,13 @@ put-joins-returns-2 : (t : ℕ) → put-joins-lts.Need-returns-2 (
   put-join-reads.Asked,
   put-join-reads.Learnt,
 ) (put-joins-at t) put-joins.Post
-put-joins-returns-2 t c = λ q k tree p f. join-put k _ (c .before .before .before .before .before .before .before .before .before .before .before .before .before .before .before .before .before .before .before .before .row-of .ensures .0) (c .before .before .before .before .before .before .before .before .before .before .before .before .before .before .before .before .before .before .before .before .row-of .ensures .1) (c .before .before .before .before .before .before .before .before .before .before .before .before .before .before .before .before .before .step-of .ensures) (c .before .before .before .before .before .before .before .before .before .before .before .before .before .before .before .join .given .1) (c .before .before .before .before .before .before .before .before .before .before .before .before .put-joins .ensures q k) (c .before .before .before .before .before .before .before .before .put-joins2 .ensures q k) (c .before .before .put-join .ensures) tree p f
+put-joins-returns-2 t c =
+    let y = c .before .before .before .before .before .before .before .before in
+    let x = y .before .before .before .before in
+    let j = x .before .before .before in
+    let w = j .before .before in
+    let r = w .before .before .before in
+    λ q k tree p f. join-put k (r .row-of .result) (r .row-of .ensures .0) (r .row-of .ensures .1) (w .step-of .ensures) (j .join .given .1) (x .put-joins .ensures q k) (y .put-joins2 .ensures q k) (c .before .before .put-join .ensures) tree p f
 
 pub +put-joins-spec : {M : Type 1} → statement M
 +put-joins-spec = close μ-put-joins λ t. put-joins-lts.spec (

@@ -4,8 +4,6 @@ use lib.ListN.{length}
 use Rattle.writer.specs.PlanLaws.{Ahead, ahead-start, ahead-on}
 use Rattle.writer.proofs.joins.row_of.Statement.{statement}
 use Rattle.writer.proofs.joins.row_of.Tie as tie
-use Rattle.writer.proofs.joins.row_of.Reads as reads
-use Rattle.writer.proofs.joins.row_of.Lts as lts
 
 abbrev Inv-loop : tie.InvT-loop
 Inv-loop sets set row₀ row = Ahead sets set row

@@ -2,9 +2,6 @@ use Rattle.writer.specs.PlanLaws.{root-scan, root-join}
 use borrow.Author.Needs.{needs}
 use Rattle.writer.proofs.joins.step_of.Statement.{statement}
 use Rattle.writer.proofs.joins.step_of.Tie as tie
-use Rattle.writer.proofs.joins.step_of.Reads as reads
-use Rattle.writer.proofs.joins.step_of.Lts as lts
-use Rattle.sets.proofs.lowest_table.Reads as lowest-table-reads
 
 lowest-table-requires : tie.Need-lowest-table-requires
 lowest-table-requires c κs = search needs

@@ -2,10 +2,6 @@ use Rattle.writer.specs.PutLaws.{put-then}
 use borrow.Author.Needs.{needs}
 use Rattle.writer.proofs.lines.put_field.Statement.{statement}
 use Rattle.writer.proofs.lines.put_field.Tie as tie
-use Rattle.writer.proofs.lines.put_field.Reads as reads
-use Rattle.writer.proofs.lines.put_field.Lts as lts
-use Rattle.writer.proofs.numbers.put_byte.Reads as put-byte-reads
-use Rattle.writer.proofs.numbers.put_number.Reads as put-number-reads
 
 put-byte-requires : tie.Need-put-byte-requires
 put-byte-requires c κs = search needs

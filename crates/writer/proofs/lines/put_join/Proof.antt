@@ -5,11 +5,6 @@ use Rattle.writer.specs.LineLaws.{join-is}
 use borrow.Author.Needs.{needs}
 use Rattle.writer.proofs.lines.put_join.Statement.{statement}
 use Rattle.writer.proofs.lines.put_join.Tie as tie
-use Rattle.writer.proofs.lines.put_join.Reads as reads
-use Rattle.writer.proofs.lines.put_join.Lts as lts
-use Rattle.writer.proofs.lines.put_field.Reads as put-field-reads
-use Rattle.writer.proofs.lines.put_set_field.Reads as put-set-field-reads
-use Rattle.writer.proofs.numbers.put_byte.Reads as put-byte-reads
 
 put-byte-requires : tie.Need-put-byte-requires
 put-byte-requires c κs = room-first (74 ∷ []) _ (room-of (join-is _ _ _ _ _ _) (c .before .before .pre .0))

@@ -3,9 +3,6 @@ use Rattle.writer.specs.LineLaws.{plan-is}
 use borrow.Author.Needs.{needs}
 use Rattle.writer.proofs.lines.put_plan.Statement.{statement}
 use Rattle.writer.proofs.lines.put_plan.Tie as tie
-use Rattle.writer.proofs.lines.put_plan.Reads as reads
-use Rattle.writer.proofs.lines.put_plan.Lts as lts
-use Rattle.writer.proofs.lines.put_two.Reads as put-two-reads
 
 put-two-requires : tie.Need-put-two-requires
 put-two-requires c κs = room-of (plan-is _ _) (c .before .before .pre) .left

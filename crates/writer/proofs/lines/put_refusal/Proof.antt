@@ -3,9 +3,6 @@ use Rattle.writer.specs.LineLaws.{refusal-is}
 use borrow.Author.Needs.{needs}
 use Rattle.writer.proofs.lines.put_refusal.Statement.{statement}
 use Rattle.writer.proofs.lines.put_refusal.Tie as tie
-use Rattle.writer.proofs.lines.put_refusal.Reads as reads
-use Rattle.writer.proofs.lines.put_refusal.Lts as lts
-use Rattle.writer.proofs.lines.put_two.Reads as put-two-reads
 
 put-two-requires : tie.Need-put-two-requires
 put-two-requires c κs = room-of (refusal-is _) (c .before .before .pre) .left

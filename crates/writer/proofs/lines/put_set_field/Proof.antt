@@ -2,10 +2,6 @@ use Rattle.writer.specs.PutLaws.{put-then}
 use borrow.Author.Needs.{needs}
 use Rattle.writer.proofs.lines.put_set_field.Statement.{statement}
 use Rattle.writer.proofs.lines.put_set_field.Tie as tie
-use Rattle.writer.proofs.lines.put_set_field.Reads as reads
-use Rattle.writer.proofs.lines.put_set_field.Lts as lts
-use Rattle.writer.proofs.numbers.put_byte.Reads as put-byte-reads
-use Rattle.writer.proofs.numbers.put_set.Reads as put-set-reads
 
 put-byte-requires : tie.Need-put-byte-requires
 put-byte-requires c κs = search needs

@@ -5,10 +5,6 @@ use Rattle.writer.specs.LineLaws.{two-line}
 use borrow.Author.Needs.{needs}
 use Rattle.writer.proofs.lines.put_two.Statement.{statement}
 use Rattle.writer.proofs.lines.put_two.Tie as tie
-use Rattle.writer.proofs.lines.put_two.Reads as reads
-use Rattle.writer.proofs.lines.put_two.Lts as lts
-use Rattle.writer.proofs.lines.put_field.Reads as put-field-reads
-use Rattle.writer.proofs.numbers.put_byte.Reads as put-byte-reads
 
 put-byte-requires : tie.Need-put-byte-requires
 put-byte-requires c κs = room-first (_ ∷ []) _ (room-of (two-line _ _ _) (c .before .before .pre))

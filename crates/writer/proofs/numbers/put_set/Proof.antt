@@ -6,9 +6,6 @@ use Rattle.writer.specs.PutLaws.{put-length}
 use Rattle.writer.specs.SetLaws.{set-start, set-step, set-done, table-room}
 use Rattle.writer.proofs.numbers.put_set.Statement.{statement}
 use Rattle.writer.proofs.numbers.put_set.Tie as tie
-use Rattle.writer.proofs.numbers.put_set.Reads as reads
-use Rattle.writer.proofs.numbers.put_set.Lts as lts
-use Rattle.writer.proofs.numbers.put_table.Reads as put-table-reads
 
 abbrev Inv-loop : tie.InvT-loop
 Inv-loop out₀ at n set end₀ t₀ out end t = (1 ≤ t) × (t ≤ n + 1) × Put out₀ out at end (setText (t - 1) set)

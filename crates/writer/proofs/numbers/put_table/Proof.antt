@@ -7,11 +7,6 @@ use Rattle.writer.specs.SetLaws.{table-none, table-first, table-after}
 use borrow.Author.Needs.{needs}
 use Rattle.writer.proofs.numbers.put_table.Statement.{statement}
 use Rattle.writer.proofs.numbers.put_table.Tie as tie
-use Rattle.writer.proofs.numbers.put_table.Reads as reads
-use Rattle.writer.proofs.numbers.put_table.Lts as lts
-use Rattle.sets.proofs.has_table.Reads as has-table-reads
-use Rattle.writer.proofs.numbers.put_byte.Reads as put-byte-reads
-use Rattle.writer.proofs.numbers.put_number.Reads as put-number-reads
 
 has-table-requires : tie.Need-has-table-requires
 has-table-requires c κs = search needs
