@@ -3,8 +3,10 @@ ghost use mathlib.Core.Path.{_≡_};
 ghost use Prim.Native.Nat.{_≤_, _<_, _+_, _^_};
 ghost use mathlib.Core.List.{_∷_, []};
 ghost use lib.ListN.{length};
+ghost use lib.Dec.{ltb};
 ghost use Rattle.rules.specs.Writing.{digitsOf, setText};
 ghost use Rattle.writer.specs.Put.{Put};
+ghost use Rattle.writer.specs.SetText.{tableText};
 use sets::has_table;
 
 const ZERO: u8 = 48;
@@ -26,12 +28,25 @@ pub fn put_number(out: &mut [u8], at: usize, n: u64) -> usize
     ensures { λ r. ⌜ Put (now (out .entry)) (now (out .exit)) at r (digitsOf n) ⌝ }
 {
     if n < 10 {
-        out[at] = ZERO + n as u8;
-        return at + 1;
+        return put_byte(out, at, ZERO + n as u8);
     }
     let end = put_number(out, at, n / 10);
-    out[end] = ZERO + (n % 10) as u8;
-    end + 1
+    put_byte(out, end, ZERO + (n % 10) as u8)
+}
+
+// Table `t` of a set, where its lower tables stand from `at` to `end`.
+fn put_table(out: &mut [u8], at: usize, end: usize, set: u64, t: u64) -> usize
+    requires { ⌜ (1 ≤ t) × (t ≤ 32) × (end + length (tableText set t (ltb at end)) ≤ length (now out)) ⌝ }
+    ensures { λ r. ⌜ Put (now (out .entry)) (now (out .exit)) end r (tableText set t (ltb at end)) ⌝ }
+{
+    if !has_table(set, t) {
+        return end;
+    }
+    if at < end {
+        let next = put_byte(out, end, COMMA);
+        return put_number(out, next, t);
+    }
+    put_number(out, end, t)
 }
 
 // The tables of a set, ascending, with commas.
@@ -42,12 +57,7 @@ pub fn put_set(out: &mut [u8], at: usize, n: u64, set: u64) -> usize
     let mut end = at;
     let mut t = 1;
     while t <= n {
-        if has_table(set, t) {
-            if at < end {
-                end = put_byte(out, end, COMMA);
-            }
-            end = put_number(out, end, t);
-        }
+        end = put_table(out, at, end, set, t);
         t += 1;
     }
     end
