@@ -8,7 +8,7 @@ ghost use Rattle.rules.specs.Answers.{Planned};
 ghost use Rattle.query.specs.Lists.{queryOf};
 ghost use Rattle.planner.specs.Plans.{memoryOf, inputOf, outcomeOf, refusedWith};
 use memo::layout::lay_out;
-use query::refusals::check;
+use refusals::check;
 use rules::NewScheme;
 use rules::Scheme;
 use search::search;

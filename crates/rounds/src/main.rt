@@ -3,7 +3,7 @@
 use memo::columns::lay_starts;
 use memo::layout::lay_out;
 use pairs::shares::Share;
-use query::refusals::check;
+use refusals::check;
 use rules::NewScheme;
 use rules::Scheme;
 use sets::lowest_table;
