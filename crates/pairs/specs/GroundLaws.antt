@@ -27,8 +27,8 @@ use Rattle.rules.specs.laws.Skips.{vector-right}
 use Rattle.rules.specs.laws.Candidates.{numbered-length}
 use Rattle.rules.specs.laws.Complete.{mine, queue-mine}
 use Rattle.sets.specs.Laws.{rank-at, rank-lt}
-use Rattle.memo.specs.WalkLaws.{rows-fit}
-use Rattle.memo.specs.VectorLaws.{vectors-cells}
+use Rattle.rows.specs.WalkLaws.{rows-fit}
+use Rattle.skips.specs.VectorLaws.{vectors-cells}
 use Rattle.pairs.specs.declared.places.Place.{Place}
 use Rattle.pairs.specs.declared.shares.Share.{Share}
 use Rattle.pairs.specs.Shares.{ShareOf, inSpan, spanOf, onSpan}

@@ -28,7 +28,7 @@ use Rattle.rules.specs.laws.Rows.{rows-only, rows-all, below-all}
 use Rattle.rules.specs.laws.Sets.{size-zero, full-only}
 use Rattle.rules.specs.laws.Refusals.{checked}
 use Rattle.memo.specs.declared.layout.Laid.{Laid}
-use Rattle.memo.specs.Vectors.{written}
+use Rattle.skips.specs.Vectors.{written}
 use Rattle.memo.specs.Layout.{Lent, lentOf, OneLength, Room, laid, counts, refused, LaidOut}
 use Rattle.memo.specs.LayoutLaws.{laid-verdict, written-over, front}
 use Rattle.turns.specs.Standing.{columns}

@@ -19,7 +19,7 @@ use Rattle.rules.specs.Checked.{Sound}
 use Rattle.rules.specs.Answers.{Spared, Logged, perWorker}
 use Rattle.rules.specs.laws.Turns.{Below}
 use Rattle.rules.specs.laws.Handed.{among, JoinablePair}
-use Rattle.memo.specs.Vectors.{written}
+use Rattle.skips.specs.Vectors.{written}
 use Rattle.turns.specs.declared.turn.Worker.{Worker}
 use Rattle.turns.specs.declared.turn.Handed as code
 use Rattle.pairs.specs.Shares.{few}

@@ -23,7 +23,7 @@ use Rattle.rules.specs.Answers.{Spared, shown, Logged}
 use Rattle.rules.specs.laws.Lists.{length-map, over-length}
 use Rattle.memo.specs.Layout.{starts, cellStarts}
 use Rattle.rules.specs.laws.Bools.{true-or-false, not-both}
-use Rattle.memo.specs.Vectors.{written}
+use Rattle.skips.specs.Vectors.{written}
 use Rattle.turns.specs.declared.turn.Worker.{Worker}
 use Rattle.turns.specs.declared.turn.Handed as code
 use Rattle.pairs.specs.Shares.{few}

@@ -24,7 +24,7 @@ use Rattle.rules.specs.laws.Shares.{cut-mono}
 use Rattle.rules.specs.laws.Rows.{memo-only, below-all}
 use Rattle.rules.specs.laws.Refusals.{sound-of, crew-of, turns-of}
 use Rattle.memo.specs.declared.layout.Laid.{Laid}
-use Rattle.memo.specs.Vectors.{written}
+use Rattle.skips.specs.Vectors.{written}
 use Rattle.memo.specs.Layout.{starts, cellStarts, Lent, OneLength, Room, laid, LaidOut}
 use Rattle.memo.specs.LayoutLaws.{still-long, one-length}
 use Rattle.pairs.specs.Shares.{shareOf}

@@ -100,6 +100,12 @@ at-in d [] j h = absurd (omega arith)
 at-in d (x ∷ l) zero h = List·Memᴰ·head refl
 at-in d (x ∷ l) (suc j) h = List·Memᴰ·tail (at-in d l j (omega arith))
 
+-- where an element stands
+pub in-at : {C : Type 0} (d : C) (l : List C) (x : C) → List·Memᴰ x l → (j : ℕ) × (j < length l) × (getD l j d ≡ x)
+in-at d [] x m = absurd (List·Memᴰ·not-nil m)
+in-at d (y ∷ l) x (List·Memᴰ·head e) = (0, omega arith, sym e)
+in-at d (y ∷ l) x (List·Memᴰ·tail m) = let r = in-at d l x m in (suc (r .0), omega (arith, r .1), r .2)
+
 pub at-map : {C : Type 0} (f : C → ℕ) (c : C) (l : List C) (j : ℕ) → j < length l → getD (map f l) j 0 ≡ f (getD l j c)
 at-map f c [] j h = absurd (omega arith)
 at-map f c (x ∷ l) zero h = refl
