@@ -35,10 +35,10 @@ use Rattle.turns.specs.Standing.{columns}
 use Rattle.turns.specs.StartLaws.{estimated-of}
 use Rattle.pairs.specs.Places.{startOf}
 use Rattle.pairs.specs.PlaceLaws.{start-next, start-end, in-size, memo-row, memo-few}
-use Rattle.pairs.specs.Shares.{few}
+use Rattle.shares.specs.Shares.{few}
 use Rattle.planner.specs.declared.Answer.{Answer}
-use Rattle.planner.specs.Runs.{logOf, SearchReady, SearchDone}
-use Rattle.planner.specs.SearchLaws.{spared-written, spared-on, laid-length}
+use Rattle.runs.specs.Runs.{logOf, SearchReady, SearchDone}
+use Rattle.runs.specs.SearchLaws.{spared-written, spared-on, laid-length}
 use Rattle.planner.specs.Plans.{answerOf, outcomeOf, refusedWith}
 
 -- ---- refusals

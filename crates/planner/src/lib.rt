@@ -11,10 +11,7 @@ use memo::layout::lay_out;
 use refusals::check;
 use rules::NewScheme;
 use rules::Scheme;
-use search::search;
-
-pub mod log;
-pub mod search;
+use runs::search::search;
 
 // "The answer gives best cost, number of memo rows, of skip cells, of joinable pairs, and eight per-worker pair counts"; a refusal
 // gives number and place, and zeros.

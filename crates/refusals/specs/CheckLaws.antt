@@ -19,7 +19,7 @@ use Rattle.rules.specs.Sets.{full}
 use Rattle.rules.specs.Estimate.{joinsAt}
 use Rattle.rules.specs.Checked.{GoodGraph}
 use Rattle.rules.specs.Refusals.{none, firstBad, firstOf, allAre, allSame, groups, refuse, badTable, badMethod, joinedBelow, repeats, edgeOr, badEdge, isRefused, badTurn, checksOf}
-use Rattle.rules.specs.laws.Bools.{true-or-false, and-true-l, and-true-r, or-true-l, or-true-r}
+use Rattle.rules.specs.laws.Bools.{true-or-false, or-true-l, or-true-r}
 use Rattle.sets.specs.Laws.{shifted-one}
 use Rattle.query.specs.Lists.{samePair}
 use Rattle.refusals.specs.Checks.{queryGroups, tableNumber, methodNumber, tableChecks, methodChecks, graphChecks, crewChecks, TablesGood}

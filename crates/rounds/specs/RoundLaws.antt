@@ -27,7 +27,7 @@ use Rattle.memo.specs.declared.layout.Laid.{Laid}
 use Rattle.skips.specs.Vectors.{written}
 use Rattle.memo.specs.Layout.{starts, cellStarts, Lent, OneLength, Room, laid, LaidOut}
 use Rattle.memo.specs.LayoutLaws.{still-long, one-length}
-use Rattle.pairs.specs.Shares.{shareOf}
+use Rattle.shares.specs.Shares.{shareOf}
 use Rattle.pairs.specs.PlaceLaws.{met-few}
 use Rattle.results.specs.Prices.{kept}
 use Rattle.turns.specs.declared.turn.Worker.{Worker}

@@ -1,7 +1,7 @@
 -- Laws of the walk: its ends, one step of it, how long it gets, the rows of a size and of all sizes, and where it meets nothing.
 use mathlib.Core.Path.{_≡_, refl, sym, ap, ap₂, _∙_}
 use mathlib.Core.Logic.{_⊎_, inl, inr}
-use mathlib.Core.Bool.{Bool, true, false, cond, not, _&&_}
+use mathlib.Core.Bool.{Bool, true, false, cond, not}
 use mathlib.Core.List.{List, [], _∷_, _++_, map, map-append, List·Memᴰ, List·Memᴰ·head, List·Memᴰ·tail, Memᴰ·of-map}
 use Prim.Native.Nat.{ℕ, zero, suc, _+_, _-_, _*_, _^_, _≤_, _<_, _/_}
 use native.Mathlib.Nat.{pow-suc, zero-add, mul-suc, mul-le-mul}
@@ -12,22 +12,22 @@ use lib.Pow.{pow-mono, pow-pos}
 use lib.Bits.{bitAnd}
 use lib.ListN.{length, length-append, set}
 use lib.Seq.{sets}
-use borrow.Author.Tests.{eqb-true, eq-eqb}
+use borrow.Author.Tests.{eq-eqb}
 use Rattle.rules.specs.Limits.{maxTables}
 use Rattle.rules.specs.Lists.{keep, isYes, inRow}
-use Rattle.rules.specs.Sets.{number, single, size, holds, has, Disjoint, disjoint, Splits, Ascending}
+use Rattle.rules.specs.Sets.{number, single, size, holds, Disjoint, disjoint, Splits, Ascending}
 use Rattle.rules.specs.Query.{Graph, tableCount, Between}
 use Rattle.rules.specs.Connected.{Connected, Walk, here, step}
 use Rattle.rules.specs.Rows.{combos, sequences, rowsOf, memo}
 use Rattle.rules.specs.Skips.{skips}
-use Rattle.rules.specs.laws.Bools.{true-or-false, not-both, yes-true, and-true-r}
+use Rattle.rules.specs.laws.Bools.{true-or-false, not-both, yes-true}
 use Rattle.rules.specs.laws.Lists.{length-map, row-last, sum, sum-append}
-use Rattle.rules.specs.laws.Sets.{bit, bit-le, holds-bit, holds-none, holds-pos, holds-lt, holds-sum, holds-apart, holds-minus, holds-single, holds-single-only, disjoint-of-bits, union-of, splits-inner}
-use Rattle.rules.specs.laws.Connected.{Within, within-left, connected-single, within-same, within-on}
+use Rattle.rules.specs.laws.Sets.{bit, bit-le, holds-bit, holds-none, holds-pos, holds-lt, holds-sum, holds-apart, holds-minus, holds-single, holds-single-only, disjoint-of-bits, union-of}
+use Rattle.rules.specs.laws.Connected.{Within, connected-single}
 use Rattle.rules.specs.laws.Decide.{connected?, betweenIn, between-of}
 use Rattle.rules.specs.laws.Rows.{rows-only, combos-only}
 use Rattle.rules.specs.laws.Skips.{cells-sizes}
-use Rattle.query.specs.ConnectedLaws.{Part, Grown, grow, grow-right, grow-left, grow-not}
+use Rattle.query.specs.ConnectedLaws.{Part, Grown}
 use Rattle.rows.specs.Walk.{walk, upTo, onward, Apart}
 
 -- ---- what passes

@@ -2,7 +2,7 @@
 use mathlib.Core.Path.{_≡_, refl, sym, ap, _∙_, subst}
 use mathlib.Core.Logic.{_⊎_, inl, inr, ⊎-elim}
 use mathlib.Core.Bool.{true, false}
-use mathlib.Core.List.{List, [], _∷_, List·Memᴰ}
+use mathlib.Core.List.{List, [], _∷_}
 use Prim.Native.Nat.{ℕ, zero, suc, _+_, _-_, _≤_, _<_}
 use native.Mathlib.Nat.{add-comm}
 use native.Mathlib.Decide.{decLt, ℕ-discrete}
@@ -35,7 +35,7 @@ use Rattle.rules.specs.laws.Outcome.{bestAt, best-least}
 use Rattle.turns.specs.declared.turn.Worker.{Worker}
 use Rattle.pairs.specs.declared.places.Place.{Place}
 use Rattle.turns.specs.declared.turn.Handed as code
-use Rattle.pairs.specs.Shares.{shareOf}
+use Rattle.shares.specs.Shares.{shareOf}
 use Rattle.pairs.specs.Places.{startOf, metAt, noCandidate, At, ownAt, NextFrom}
 use Rattle.pairs.specs.PlaceLaws.{start-next, start-mono, start-memo, memo-row}
 use Rattle.pairs.specs.GroundLaws.{at-number}
