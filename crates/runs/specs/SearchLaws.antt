@@ -8,6 +8,8 @@ use native.Mathlib.Decide.{decLt}
 use native.Mathlib.Omega.{arith}
 use lib.ListN.{length, getD, set, length-set, length-take, replicate, length-replicate}
 use lib.Seq.{drop-set-lt}
+use mir.Syntax.{w64}
+use mir.Val.{Fits}
 use borrow.Author.Tests.{lt-ltb, le-ltb}
 use Rattle.rules.specs.Limits.{maxTables, maxWorkers}
 use Rattle.rules.specs.declared.Scheme.{Scheme}
@@ -215,6 +217,23 @@ below-eight h e = omega arith
 
 pub few-pairs : {p s n : ℕ} → p ≤ maxWorkers * (s * few) → s ≤ n → n ≤ maxTables → p < 2 ^ 63
 few-pairs a b c = omega arith
+
+pub below-two : {s : ℕ} → 2 ≤ s → 1 ≤ s
+below-two h = omega arith
+
+-- the tables of starts have room for every size
+pub starts-room : {n : ℕ} → n ≤ maxTables → n + 2 ≤ 18
+starts-room h = omega arith
+
+pub size-fits : {k n : ℕ} → k ≤ n → n ≤ maxTables → Fits w64 (k + 1)
+size-fits h l = omega arith
+
+pub less-size : {k e : ℕ} → k < e → e - (k + 1) < e - k
+less-size h = omega arith
+
+-- past the last size, all are done
+pub all-sizes : {k e n : ℕ} → k ≤ n → e ≡ n → e ≤ k → k ≡ n
+all-sizes a b c = omega arith
 
 -- ---- lengths stay
 pub laid-length : (l v : List ℕ) {l′ : List ℕ} → l′ ≡ written l 0 v → length l′ ≡ length l

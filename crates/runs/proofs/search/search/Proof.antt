@@ -1,7 +1,7 @@
-use mathlib.Core.Path.{_≡_, refl, _∙_}
+use mathlib.Core.Path.{_≡_, refl, sym, _∙_}
 use mathlib.Core.List.{List}
 use Prim.Native.Nat.{ℕ, _+_, _-_, _≤_}
-use native.Mathlib.Omega.{arith}
+use native.Mathlib.Nat.{le-refl}
 use lib.ListN.{length, replicate}
 use Rattle.rules.specs.Query.{graphOf}
 use Rattle.query.specs.Lists.{queryOf}
@@ -10,7 +10,7 @@ use Rattle.turns.specs.Standing.{columns}
 use Rattle.turns.specs.QueueLaws.{stillMet}
 use Rattle.turns.specs.StartLaws.{Prepared}
 use Rattle.runs.specs.Runs.{logOf, Between, Underway, Carried}
-use Rattle.runs.specs.SearchLaws.{scans-fit, between-start, between-end, prepared, nobodies, within-open, within-closed, within-few, within-board, within-ready, whose-known, within-less, carried-start, carried-turn, underway-turn, two-of, size-of, below-eight, few-pairs, laid-length, logged-lengths}
+use Rattle.runs.specs.SearchLaws.{scans-fit, between-start, between-end, prepared, nobodies, within-open, within-closed, within-few, within-board, within-ready, whose-known, within-less, carried-start, carried-turn, underway-turn, two-of, size-of, below-eight, below-two, few-pairs, starts-room, size-fits, less-size, all-sizes, laid-length, logged-lengths}
 use Rattle.runs.proofs.search.search.Statement.{statement}
 use Rattle.runs.proofs.search.search.Tie as tie
 
@@ -36,16 +36,16 @@ abbrev zeros : List ℕ
 zeros = replicate 18 0
 
 slice-aggregate-lay-starts : tie.Need-slice-aggregate-lay-starts Inv-loop2 μ-loop2 Inv-loop μ-loop
-slice-aggregate-lay-starts c = omega arith
+slice-aggregate-lay-starts c = refl
 
 slice-aggregate-lay-starts-2 : tie.Need-slice-aggregate-lay-starts-2 Inv-loop2 μ-loop2 Inv-loop μ-loop
-slice-aggregate-lay-starts-2 c = omega arith
+slice-aggregate-lay-starts-2 c = refl
 
 lay-starts-requires : tie.Need-lay-starts-requires Inv-loop2 μ-loop2 Inv-loop μ-loop
 lay-starts-requires c κs =
     let s = c .before .before .before .before .before .before .before .before .before .before .before .before .before .before .before .before .before .before .before .before .before .before in
     let z = s .pre in
-    (z .sound .graph, (omega (arith, z .sound .graph .few-tables), omega (arith, z .sound .graph .few-tables)))
+    (z .sound .graph, (starts-room (z .sound .graph .few-tables), starts-room (z .sound .graph .few-tables)))
 
 lay-scans-requires : tie.Need-lay-scans-requires Inv-loop2 μ-loop2 Inv-loop μ-loop
 lay-scans-requires c κs =
@@ -63,23 +63,23 @@ loop-holds c =
     let g = graphOf (s .args .rows .now) (s .args .left .now) (s .args .right .now) (s .args .divisors .now) in
     let l = c .before .before .before .before .before .before .before .lay-starts .ensures in
     let n = nobodies (c .nobody .ensures) in (
-      omega arith,
+      le-refl 1,
       z .sound .graph .some-table,
       refl,
-      prepared z zeros zeros (omega (arith, z .sound .graph .few-tables)) (omega (arith, z .sound .graph .few-tables)) (l .0) (l .1),
+      prepared z zeros zeros (starts-room (z .sound .graph .few-tables)) (starts-room (z .sound .graph .few-tables)) (l .0) (l .1),
       laid-length zeros (starts g) (l .0),
       laid-length zeros (cellStarts g) (l .1),
       between-start z (c .before .before .before .lay-scans .ensures) (s .args .scheme) _ (n .0) (n .1),
     )
 
 add-s : tie.Need-add-s Inv-loop2 μ-loop2 Inv-loop μ-loop
-add-s c = omega arith
+add-s c = size-fits (c .before .loop .inv .1) (c .before .before .before .before .before .before .before .before .before .before .before .before .before .before .before .before .before .before .before .before .before .before .before .before .before .before .before .before .before .before .before .before .pre .sound .graph .few-tables)
 
 slice-aggregate-open : tie.Need-slice-aggregate-open Inv-loop2 μ-loop2 Inv-loop μ-loop
-slice-aggregate-open c = omega arith
+slice-aggregate-open c = sym (c .before .before .loop .inv .4)
 
 slice-aggregate-open-2 : tie.Need-slice-aggregate-open-2 Inv-loop2 μ-loop2 Inv-loop μ-loop
-slice-aggregate-open-2 c = omega arith
+slice-aggregate-open-2 c = sym (c .before .before .before .loop .inv .5)
 
 open-requires : tie.Need-open-requires Inv-loop2 μ-loop2 Inv-loop μ-loop
 open-requires c κs =
@@ -111,14 +111,10 @@ whose-turn-requires : tie.Need-whose-turn-requires Inv-loop2 μ-loop2 Inv-loop �
 whose-turn-requires c κs = tt
 
 slice-aggregate-turn : tie.Need-slice-aggregate-turn Inv-loop2 μ-loop2 Inv-loop μ-loop
-slice-aggregate-turn c =
-    let m = c .before .before .before .before .before .before .loop2 in
-    omega (arith, m .inv .3)
+slice-aggregate-turn c = sym (c .before .before .before .before .before .before .loop2 .inv .3)
 
 slice-aggregate-turn-2 : tie.Need-slice-aggregate-turn-2 Inv-loop2 μ-loop2 Inv-loop μ-loop
-slice-aggregate-turn-2 c =
-    let m = c .before .before .before .before .before .before .before .loop2 in
-    omega (arith, m .inv .4)
+slice-aggregate-turn-2 c = sym (c .before .before .before .before .before .before .before .loop2 .inv .4)
 
 turn-requires : tie.Need-turn-requires Inv-loop2 μ-loop2 Inv-loop μ-loop
 turn-requires c κs =
@@ -168,10 +164,10 @@ loop2-again c =
     )
 
 add-k : tie.Need-add-k Inv-loop2 μ-loop2 Inv-loop μ-loop
-add-k c = omega arith
+add-k c = size-fits (c .before .before .before .before .before .before .before .loop .inv .1) (c .before .before .before .before .before .before .before .before .before .before .before .before .before .before .before .before .before .before .before .before .before .before .before .before .before .before .before .before .before .before .before .before .before .before .before .before .before .before .pre .sound .graph .few-tables)
 
 loop-less : tie.Need-loop-less Inv-loop2 μ-loop2 Inv-loop μ-loop
-loop-less c = omega arith
+loop-less c = less-size (c .before .before .before .before .before .before .loop-test .taken)
 
 loop-again : tie.Need-loop-again Inv-loop2 μ-loop2 Inv-loop μ-loop
 loop-again c =
@@ -180,7 +176,7 @@ loop-again c =
     let l = c .before .before .before .before .before .before .before .loop in
     let m = c .before .loop2 in
     let w = m .inv .6 .carry _ _ (z .log-fits) (within-open (z .sound) (m .inv .1) (m .inv .2) (z .some-worker) (z .few-workers) (l .inv .6) (c .before .before .before .open .ensures) (c .before .before .lowest .ensures)) in (
-      omega (arith, m .inv .1),
+      below-two (m .inv .1),
       m .inv .2,
       l .inv .2,
       m .inv .0,
@@ -232,7 +228,7 @@ returns c =
     let s = c .before .before .before .before .before .before .before .before .before .before .before .before .before .before .before .before .before .before .before .before .before .before .before .before .before .before .before .before .before .before .before .before .before in
     let z = s .pre in
     let l = c .before .before .loop in
-    let e : l .k ≡ length (s .args .rows .now) = omega (arith, l .inv .1, l .inv .2, c .before .loop-test .left) in
+    let e : l .k ≡ length (s .args .rows .now) = all-sizes (l .inv .1) (l .inv .2) (c .before .loop-test .left) in
     rw (c .counts-of .ensures) (between-end z (c .before .before .before .before .before .before .lay-scans .ensures) (rw e at (l .inv .6)))
 
 pub search-spec : {M : Type 1} → statement M
