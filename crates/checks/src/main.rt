@@ -1,6 +1,6 @@
 // Runs check on a query that is changed a little each time, and prints number and place of each verdict.
 // What it must print was worked out from document 01 apart from this code, and stands in `stdout`.
-use query::refusals::check;
+use refusals::check;
 use rules::Verdict;
 ghost use mathlib.Core.Path.{_≡_};
 ghost use lib.ListN.{length};

@@ -1,7 +1,7 @@
 // Lays out 000's figure 4, a chain of twelve tables and document 01's query, and prints rows, estimates and skip vectors.
 // What it must print was worked out from document 01 apart from this code, and stands in `stdout`.
 use memo::layout::lay_out;
-use query::refusals::check;
+use refusals::check;
 use sets::lowest_table;
 use sets::single;
 use sets::size;

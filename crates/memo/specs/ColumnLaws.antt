@@ -8,7 +8,7 @@ use native.Mathlib.Numerals.{add-one}
 use lib.ListN.{length, getD, set, take, length-append, length-take, replicate, length-replicate, replicate-append-replicate, List·getD-append}
 use lib.Seq.{take-suc, set-comm, getD-at}
 use Rattle.rules.specs.laws.Lists.{length-map}
-use Rattle.memo.specs.Vectors.{written}
+use Rattle.skips.specs.Vectors.{written}
 use Rattle.memo.specs.Layout.{countsTo}
 
 -- one more store after a run of stores

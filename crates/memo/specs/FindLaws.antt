@@ -1,7 +1,7 @@
 -- What one look tells of the place; the rows that a query has are found.
 use mathlib.Core.Path.{_≡_, sym, ap, _∙_}
 use mathlib.Core.Bool.{true, false}
-use mathlib.Core.List.{List, [], _∷_, map, List·Memᴰ, List·Memᴰ·head, List·Memᴰ·tail, List·Memᴰ·not-nil, Memᴰ·map, Memᴰ·cast}
+use mathlib.Core.List.{List, [], _∷_, map, List·Memᴰ, Memᴰ·map, Memᴰ·cast}
 use Prim.Native.Nat.{ℕ, zero, suc, _+_, _-_, _^_, _≤_, _<_}
 use native.Mathlib.Omega.{arith}
 use native.Mathlib.Decide.{decLt}
@@ -13,11 +13,11 @@ use Rattle.rules.specs.Sets.{size, tables}
 use Rattle.rules.specs.Query.{Graph, tableCount}
 use Rattle.rules.specs.Connected.{Connected}
 use Rattle.rules.specs.Rows.{Ordered, Before, before, rowsOf}
-use Rattle.rules.specs.laws.Lists.{at-in}
+use Rattle.rules.specs.laws.Lists.{at-in, in-at}
 use Rattle.rules.specs.laws.Rows.{rows-all, rows-only, rows-ordered, below-all, yes-before}
 use Rattle.sets.specs.Order.{key}
 use Rattle.sets.specs.Laws.{before-key, before-width}
-use Rattle.memo.specs.SizeRows.{SizeRows, InOrder, Stands}
+use Rattle.skips.specs.SizeRows.{SizeRows, InOrder, Stands}
 
 -- ---- one look at the row m, where s is sought
 module _ (sets : List ℕ) (from to s m : ℕ) (z : SizeRows sets from to (size s) 32) (o : InOrder sets from to) (lm : from ≤ m) (mt : m < to) (ls : s < 2 ^ 32) where
@@ -68,11 +68,6 @@ ordered-at n (x ∷ l) o i zero a b = absurd (omega arith)
 ordered-at n (x ∷ l) o zero (suc j) a b = o .0 (tables n (getD l j 0)) (Memᴰ·map (tables n) (at-in 0 l j (omega arith)))
 ordered-at n (x ∷ l) o (suc i) (suc j) a b = ordered-at n l (o .1) i j (omega arith) (omega arith)
 
-in-at : (x : ℕ) (l : List ℕ) → List·Memᴰ x l → (j : ℕ) × (j < length l) × (getD l j 0 ≡ x)
-in-at x [] m = absurd (List·Memᴰ·not-nil m)
-in-at x (y ∷ l) (List·Memᴰ·head e) = (0, omega arith, sym e)
-in-at x (y ∷ l) (List·Memᴰ·tail m) = let r = in-at x l m in (suc (r .0), omega (arith, r .1), r .2)
-
 -- a row of a part of the list, and its place in the list
 slice-at : (sets : List ℕ) (from to j : ℕ) → j < to - from → getD (slice from to sets) j 0 ≡ getD sets (from + j) 0
 slice-at sets from to j h = getD-drop from (take to sets) j 0 ∙ getD-take to sets (from + j) 0 (omega arith)
@@ -113,7 +108,7 @@ module _ (g : Graph) (k : ℕ) (sets : List ℕ) (from to : ℕ) (ft : from ≤ 
   pub rows-found : (S : ℕ) → Connected g S → size S ≡ k → (p : ℕ) × Stands sets from to S p
   rows-found S c z =
       let m : List·Memᴰ S (rowsOf g k) = rw z at (rows-all g S c) in
-      let r = in-at S (rowsOf g k) m in
+      let r = in-at 0 (rowsOf g k) S m in
       let l : r .0 < to - from = omega (arith, r .1, row-count) in
       (from + r .0, record { after = omega arith; ahead = omega arith; there = sym (slice-at sets from to (r .0) l) ∙ ap (λ (x : List ℕ). getD x (r .0) 0) e ∙ r .2 })
 

@@ -10,8 +10,8 @@ use Rattle.rules.specs.Rows.{memo}
 use Rattle.rules.specs.Skips.{vectors, skips}
 use Rattle.rules.specs.Refusals.{Memory}
 use Rattle.memo.specs.declared.layout.Laid.{Laid}
-use Rattle.memo.specs.Walk.{upTo}
-use Rattle.memo.specs.Vectors.{written}
+use Rattle.rows.specs.Walk.{upTo}
+use Rattle.skips.specs.Vectors.{written}
 
 -- f 0, f 1, .., n numbers
 unfoldable pub countsTo : (ℕ → ℕ) → ℕ → List ℕ

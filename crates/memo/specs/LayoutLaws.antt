@@ -16,13 +16,13 @@ use Rattle.rules.specs.Rows.{rowsOf, memo}
 use Rattle.rules.specs.Skips.{vectorsFrom, vectors, skips}
 use Rattle.rules.specs.Refusals.{Input, refuse, firstOf, rooms, groups, checksOf}
 use Rattle.rules.specs.laws.Refusals.{AllAre, AllSame, same-groups}
-use Rattle.memo.specs.Walk.{upTo}
+use Rattle.rows.specs.Walk.{upTo}
 use Rattle.rules.specs.laws.Lists.{row-split}
-use Rattle.memo.specs.WalkLaws.{wrote-both, upTo-more, length-more}
-use Rattle.memo.specs.SizeRows.{SizeRows}
-use Rattle.memo.specs.Vectors.{written}
+use Rattle.rows.specs.WalkLaws.{wrote-both, upTo-more, length-more}
+use Rattle.skips.specs.SizeRows.{SizeRows}
+use Rattle.skips.specs.Vectors.{written}
 use Rattle.memo.specs.FindLaws.{rows-sized}
-use Rattle.memo.specs.VectorLaws.{vectors-of, vectors-cells}
+use Rattle.skips.specs.VectorLaws.{vectors-of, vectors-cells}
 use Rattle.memo.specs.declared.layout.Laid.{Laid}
 use Rattle.memo.specs.Layout.{cellsTo, Lent, lent, lentOf, Room, laid, refused, answered, counts, LaidOut, OneLength}
 

@@ -6,10 +6,10 @@ ghost use lib.ListN.{length, take, replicate};
 ghost use Rattle.rules.specs.Query.{graphOf};
 ghost use Rattle.rules.specs.Checked.{GoodGraph};
 ghost use Rattle.rules.specs.Estimate.{estimate};
-ghost use Rattle.memo.specs.Vectors.{written};
+ghost use Rattle.skips.specs.Vectors.{written};
 ghost use Rattle.memo.specs.Layout.{starts, cellStarts};
-use super::rows::count_size;
 use query::estimate::estimate;
+use rows::count_size;
 
 // Writes the estimates of the first `count` sets.
 pub fn lay_estimates(

@@ -2,7 +2,7 @@
 ghost use mathlib.Core.Path.{_≡_};
 ghost use Prim.Native.Nat.{ℕ, _^_, _<_};
 ghost use Rattle.rules.specs.Sets.{size};
-ghost use Rattle.memo.specs.SizeRows.{SizeRows, InOrder, Stands};
+ghost use Rattle.skips.specs.SizeRows.{SizeRows, InOrder, Stands};
 use sets::comes_first;
 
 // The row of `s`, where it stands among the rows `from` to `to`, which are those of its size.

@@ -6,15 +6,15 @@ ghost use Rattle.rules.specs.Query.{graphOf};
 ghost use Rattle.rules.specs.Checked.{GoodGraph};
 ghost use Rattle.rules.specs.Rows.{memo};
 ghost use Rattle.rules.specs.Skips.{skips};
-ghost use Rattle.memo.specs.Vectors.{written};
+ghost use Rattle.skips.specs.Vectors.{written};
 ghost use Rattle.memo.specs.Layout.{lent, OneLength, Room, laid, answered, LaidOut};
 use super::columns::lay_estimates;
 use super::columns::lay_zeros;
-use super::rows::count_cells;
-use super::rows::count_rows;
-use super::rows::count_size;
-use super::rows::lay_sets;
-use super::skips::fill_vectors;
+use rows::count_cells;
+use rows::count_rows;
+use rows::count_size;
+use rows::lay_sets;
+use skips::fill_vectors;
 
 // What laying out answers: 0 or the refusal's number, and how many rows and cells there are, 0 where refused.
 pub struct Laid {

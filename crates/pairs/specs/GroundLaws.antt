@@ -27,11 +27,11 @@ use Rattle.rules.specs.laws.Skips.{vector-right}
 use Rattle.rules.specs.laws.Candidates.{numbered-length}
 use Rattle.rules.specs.laws.Complete.{mine, queue-mine}
 use Rattle.sets.specs.Laws.{rank-at, rank-lt}
-use Rattle.memo.specs.WalkLaws.{rows-fit}
-use Rattle.memo.specs.VectorLaws.{vectors-cells}
+use Rattle.rows.specs.WalkLaws.{rows-fit}
+use Rattle.skips.specs.VectorLaws.{vectors-cells}
 use Rattle.pairs.specs.declared.places.Place.{Place}
-use Rattle.pairs.specs.declared.shares.Share.{Share}
-use Rattle.pairs.specs.Shares.{ShareOf, inSpan, spanOf, onSpan}
+use Rattle.shares.specs.declared.Share.{Share}
+use Rattle.shares.specs.Shares.{ShareOf, inSpan, spanOf, onSpan}
 use Rattle.pairs.specs.Joinable.{isJoinable}
 use Rattle.pairs.specs.Places.{startOf, cellOf, firstRow, endRow, aheadOf, candidateAt, noCandidate, metAt, ownAt, queueAt, Ground, Hops, RowCells, At, Waits, NextFrom, rowsIn, SizesFit, countAt, countTo}
 use Rattle.pairs.specs.PlaceLaws.{with-length, row-next, row-at, row-inside, start-next, start-memo, in-size, size-known, memo-inside, memo-row, first-from, met-inside, met-at, memo-few}

@@ -1,5 +1,4 @@
--- Places among a size's candidates, shares of them, the search from a place on, and the laws that the proofs cite.
-pub mod Shares
+-- Places among a size's candidates, the search from a place on, and the laws that the proofs cite.
 pub mod Joinable
 pub mod Places
 pub mod PlaceLaws
@@ -7,3 +6,4 @@ pub mod SpanLaws
 pub mod LeafLaws
 pub mod GroundLaws
 pub mod FindLaws
+pub mod FitLaws

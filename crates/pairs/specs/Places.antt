@@ -12,12 +12,12 @@ use Rattle.rules.specs.Rows.{rowsOf, memo}
 use Rattle.rules.specs.Skips.{skips}
 use Rattle.rules.specs.Shares.{Numbered, met}
 use Rattle.rules.specs.laws.Complete.{mine}
-use Rattle.memo.specs.Walk.{upTo}
+use Rattle.rows.specs.Walk.{upTo}
 use Rattle.memo.specs.Layout.{cellsTo}
 use Rattle.pairs.specs.declared.places.Place.{Place}
-use Rattle.pairs.specs.declared.shares.Share.{Share}
-use Rattle.pairs.specs.declared.shares.Span.{Span}
-use Rattle.pairs.specs.Shares.{few, inSpan}
+use Rattle.shares.specs.declared.Share.{Share}
+use Rattle.shares.specs.declared.Span.{Span}
+use Rattle.shares.specs.Shares.{few, inSpan}
 use Rattle.pairs.specs.Joinable.{isJoinable}
 
 -- ---- where rows stand

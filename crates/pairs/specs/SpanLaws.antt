@@ -17,9 +17,9 @@ use Rattle.rules.specs.Rows.{rowsOf, memo}
 use Rattle.rules.specs.Shares.{Numbered, cut, inCut, owns, met}
 use Rattle.rules.specs.laws.Bools.{true-or-false, and-true, and-true-l, and-true-r}
 use Rattle.rules.specs.laws.Shares.{cut-mono, cut-all}
-use Rattle.pairs.specs.declared.shares.Share.{Share}
-use Rattle.pairs.specs.declared.shares.Span.{Span}
-use Rattle.pairs.specs.Shares.{few, ShareFits, ShareOf, spans, inSpan, allSpan, clipped, spanBy, spanOf, onBy, onSpan, Aligned}
+use Rattle.shares.specs.declared.Share.{Share}
+use Rattle.shares.specs.declared.Span.{Span}
+use Rattle.shares.specs.Shares.{few, ShareFits, ShareOf, spans, inSpan, allSpan, clipped, spanBy, spanOf, onBy, onSpan, Aligned}
 use Rattle.pairs.specs.Places.{startOf, firstRow, endRow, aheadOf, candidateAt}
 use Rattle.pairs.specs.PlaceLaws.{met-few}
 

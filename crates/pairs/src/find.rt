@@ -7,18 +7,18 @@ ghost use Rattle.rules.specs.Limits.{maxTables};
 ghost use Rattle.rules.specs.Sets.{holds, Lowest};
 ghost use Rattle.rules.specs.Query.{graphOf};
 ghost use Rattle.rules.specs.Checked.{GoodGraph};
-ghost use Rattle.pairs.specs.Shares.{few, ShareOf, Aligned};
+ghost use Rattle.shares.specs.Shares.{few, ShareOf, Aligned};
 ghost use Rattle.pairs.specs.Places.{firstOf, Ground, Hops, RowCells, Onward, SpanCells, Along, RowFrom, At, NextFrom, ownAt, SizesFit, countTo};
 ghost use Rattle.pairs.specs.Joinable.{isJoinable};
 use super::places::Place;
 use super::places::nowhere;
-use super::shares::Share;
-use super::shares::Span;
-use super::shares::span_of;
-use super::shares::span_on;
 use query::edges::edge_between;
 use sets::lowest_table;
 use sets::rank_of;
+use shares::Share;
+use shares::Span;
+use shares::span_of;
+use shares::span_on;
 
 // Whether two sets do not overlap and an edge runs between them.
 fn joinable(rows: &[u64], left: &[u64], right: &[u64], divisors: &[u64], x: u64, y: u64) -> bool

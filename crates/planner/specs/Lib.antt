@@ -1,9 +1,3 @@
--- The turns in a row, the log, the counts, and the laws that planning is proved by.
-pub mod Runs
-pub mod LogLaws
-pub mod TallyLaws
-pub mod LeafLaws
-pub mod RunLaws
-pub mod SearchLaws
+-- What an input and an outcome are in the code's values, and the laws that planning is proved by.
 pub mod Plans
 pub mod PlanLaws

@@ -28,17 +28,17 @@ use Rattle.rules.specs.laws.Rows.{rows-only, rows-all, below-all}
 use Rattle.rules.specs.laws.Sets.{size-zero, full-only}
 use Rattle.rules.specs.laws.Refusals.{checked}
 use Rattle.memo.specs.declared.layout.Laid.{Laid}
-use Rattle.memo.specs.Vectors.{written}
+use Rattle.skips.specs.Vectors.{written}
 use Rattle.memo.specs.Layout.{Lent, lentOf, OneLength, Room, laid, counts, refused, LaidOut}
 use Rattle.memo.specs.LayoutLaws.{laid-verdict, written-over, front}
 use Rattle.turns.specs.Standing.{columns}
 use Rattle.turns.specs.StartLaws.{estimated-of}
 use Rattle.pairs.specs.Places.{startOf}
 use Rattle.pairs.specs.PlaceLaws.{start-next, start-end, in-size, memo-row, memo-few}
-use Rattle.pairs.specs.Shares.{few}
+use Rattle.shares.specs.Shares.{few}
 use Rattle.planner.specs.declared.Answer.{Answer}
-use Rattle.planner.specs.Runs.{logOf, SearchReady, SearchDone}
-use Rattle.planner.specs.SearchLaws.{spared-written, spared-on, laid-length}
+use Rattle.runs.specs.Runs.{logOf, SearchReady, SearchDone}
+use Rattle.runs.specs.SearchLaws.{spared-written, spared-on, laid-length}
 use Rattle.planner.specs.Plans.{answerOf, outcomeOf, refusedWith}
 
 -- ---- refusals

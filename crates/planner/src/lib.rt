@@ -8,13 +8,10 @@ ghost use Rattle.rules.specs.Answers.{Planned};
 ghost use Rattle.query.specs.Lists.{queryOf};
 ghost use Rattle.planner.specs.Plans.{memoryOf, inputOf, outcomeOf, refusedWith};
 use memo::layout::lay_out;
-use query::refusals::check;
+use refusals::check;
 use rules::NewScheme;
 use rules::Scheme;
-use search::search;
-
-pub mod log;
-pub mod search;
+use runs::search::search;
 
 // "The answer gives best cost, number of memo rows, of skip cells, of joinable pairs, and eight per-worker pair counts"; a refusal
 // gives number and place, and zeros.

@@ -1,6 +1,5 @@
 -- What the contracts say beside rules' definitions, and the laws that the proofs cite.
 pub mod Lists
-pub mod CheckLaws
 pub mod EdgeLaws
 pub mod ConnectedLaws
 pub mod EstimateLaws

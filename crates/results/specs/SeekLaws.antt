@@ -11,7 +11,7 @@ use Rattle.rules.specs.Sets.{size, tables}
 use Rattle.rules.specs.Rows.{before}
 use Rattle.rules.specs.laws.Bools.{not-both}
 use Rattle.sets.specs.Laws.{before-self}
-use Rattle.memo.specs.SizeRows.{SizeRows, InOrder, Stands}
+use Rattle.skips.specs.SizeRows.{SizeRows, InOrder, Stands}
 use Rattle.memo.specs.FindLaws.{look-behind, look-ahead}
 
 -- a part of the rows of one size is such rows

@@ -24,10 +24,10 @@ use Rattle.rules.specs.laws.Shares.{cut-mono}
 use Rattle.rules.specs.laws.Rows.{memo-only, below-all}
 use Rattle.rules.specs.laws.Refusals.{sound-of, crew-of, turns-of}
 use Rattle.memo.specs.declared.layout.Laid.{Laid}
-use Rattle.memo.specs.Vectors.{written}
+use Rattle.skips.specs.Vectors.{written}
 use Rattle.memo.specs.Layout.{starts, cellStarts, Lent, OneLength, Room, laid, LaidOut}
 use Rattle.memo.specs.LayoutLaws.{still-long, one-length}
-use Rattle.pairs.specs.Shares.{shareOf}
+use Rattle.shares.specs.Shares.{shareOf}
 use Rattle.pairs.specs.PlaceLaws.{met-few}
 use Rattle.results.specs.Prices.{kept}
 use Rattle.turns.specs.declared.turn.Worker.{Worker}

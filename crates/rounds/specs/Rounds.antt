@@ -7,7 +7,7 @@ use lib.ListN.{length, getD}
 use Rattle.rules.specs.Limits.{maxWorkers}
 use Rattle.rules.specs.declared.Scheme.{Scheme}
 use Rattle.rules.specs.Query.{Query}
-use Rattle.pairs.specs.Shares.{few}
+use Rattle.shares.specs.Shares.{few}
 use Rattle.turns.specs.declared.turn.Worker.{Worker}
 use Rattle.turns.specs.Standing.{Columns, Reach, workerAt, Final, Standing}
 use Rattle.turns.specs.StartLaws.{Prepared}

@@ -2,12 +2,12 @@
 // What it must print was worked out from document 01 apart from this code, and stands in `stdout`.
 use memo::columns::lay_starts;
 use memo::layout::lay_out;
-use pairs::shares::Share;
-use query::refusals::check;
+use refusals::check;
 use rules::NewScheme;
 use rules::Scheme;
 use sets::lowest_table;
 use sets::single;
+use shares::Share;
 use turns::open::open;
 use turns::scans::lay_scans;
 use turns::turn::Handed;

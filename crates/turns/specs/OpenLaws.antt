@@ -11,8 +11,8 @@ use Rattle.rules.specs.declared.Scheme.{Scheme}
 use Rattle.rules.specs.Query.{Graph}
 use Rattle.rules.specs.Shares.{met}
 use Rattle.pairs.specs.declared.places.Place.{Place}
-use Rattle.pairs.specs.declared.shares.Share.{Share}
-use Rattle.pairs.specs.Shares.{shareOf, ShareOf}
+use Rattle.shares.specs.declared.Share.{Share}
+use Rattle.shares.specs.Shares.{shareOf, ShareOf}
 use Rattle.pairs.specs.Places.{startOf, NextFrom}
 use Rattle.turns.specs.declared.turn.Worker.{Worker}
 use Rattle.turns.specs.Standing.{nobody, workerAt, Opening}

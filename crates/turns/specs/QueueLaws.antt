@@ -26,7 +26,7 @@ use Rattle.rules.specs.laws.Turns.{sumTo, sum-same}
 use Rattle.rules.specs.laws.Complete.{mine}
 use Rattle.turns.specs.declared.turn.Worker.{Worker}
 use Rattle.pairs.specs.declared.places.Place.{Place}
-use Rattle.pairs.specs.declared.shares.Share.{Share}
+use Rattle.shares.specs.declared.Share.{Share}
 use Rattle.turns.specs.declared.turn.Handed as code
 use Rattle.pairs.specs.Places.{startOf, candidateAt, metAt, ownAt, Waits}
 use Rattle.pairs.specs.PlaceLaws.{in-size, memo-row}

@@ -23,7 +23,7 @@ use Rattle.rules.specs.laws.Complete.{mine}
 use Rattle.rules.specs.laws.Outcome.{bestAt}
 use Rattle.turns.specs.declared.turn.Worker.{Worker}
 use Rattle.turns.specs.declared.turn.Handed as code
-use Rattle.pairs.specs.Shares.{few, ShareOf, shareOf}
+use Rattle.shares.specs.Shares.{few, ShareOf, shareOf}
 use Rattle.pairs.specs.Places.{startOf, metAt, Ground, nowhere, Waits, NextFrom}
 use Rattle.results.specs.Prices.{choiceAt, kept, Methods, BothWays}
 

@@ -2,7 +2,7 @@
 use mathlib.Core.Path.{_≡_, refl, sym, ap, _∙_, subst}
 use mathlib.Core.Logic.{_⊎_, inl, inr, ⊎-elim}
 use mathlib.Core.Bool.{true, false}
-use mathlib.Core.List.{List, [], _∷_, List·Memᴰ, List·Memᴰ·head, List·Memᴰ·tail}
+use mathlib.Core.List.{List, [], _∷_}
 use Prim.Native.Nat.{ℕ, zero, suc, _+_, _-_, _≤_, _<_}
 use native.Mathlib.Nat.{add-comm}
 use native.Mathlib.Decide.{decLt, ℕ-discrete}
@@ -22,7 +22,7 @@ use Rattle.rules.specs.Shares.{Numbered, met, owns}
 use Rattle.rules.specs.Log.{Pair, pairOf, union}
 use Rattle.rules.specs.Checked.{Sound}
 use Rattle.rules.specs.laws.Bools.{true-or-false, and-true, not-both}
-use Rattle.rules.specs.laws.Lists.{Once, at-in}
+use Rattle.rules.specs.laws.Lists.{Once, at-in, in-at}
 use Rattle.rules.specs.laws.Choice.{Choice, NoLater, Best, best-same}
 use Rattle.rules.specs.laws.Candidates.{Has, numbered-in}
 use Rattle.rules.specs.laws.Connected.{joinable-sym, connected-split, connected-single}
@@ -35,7 +35,7 @@ use Rattle.rules.specs.laws.Outcome.{bestAt, best-least}
 use Rattle.turns.specs.declared.turn.Worker.{Worker}
 use Rattle.pairs.specs.declared.places.Place.{Place}
 use Rattle.turns.specs.declared.turn.Handed as code
-use Rattle.pairs.specs.Shares.{shareOf}
+use Rattle.shares.specs.Shares.{shareOf}
 use Rattle.pairs.specs.Places.{startOf, metAt, noCandidate, At, ownAt, NextFrom}
 use Rattle.pairs.specs.PlaceLaws.{start-next, start-mono, start-memo, memo-row}
 use Rattle.pairs.specs.GroundLaws.{at-number}
@@ -52,10 +52,6 @@ once-at (x ∷ l) o zero zero a b e = refl
 once-at (x ∷ l) o zero (suc j) a b e = absurd (o .0 (rw e (at-in 0 l j (omega arith))))
 once-at (x ∷ l) o (suc i) zero a b e = absurd (o .0 (rw (sym e) (at-in 0 l i (omega arith))))
 once-at (x ∷ l) o (suc i) (suc j) a b e = ap suc (once-at l (o .1) i j (omega arith) (omega arith) e)
-
-in-at : {C : Type 0} (c : C) (l : List C) (x : C) → List·Memᴰ x l → (j : ℕ) × (j < length l) × (getD l j c ≡ x)
-in-at c (y ∷ l) x (List·Memᴰ·head e) = (0, omega arith, sym e)
-in-at c (y ∷ l) x (List·Memᴰ·tail m) = let r = in-at c l x m in (suc (r .0), omega (arith, r .1), r .2)
 
 -- a row's set is connected
 row-connected : (g : Graph) (r : ℕ) → r < length (memo g) → Connected g (getD (memo g) r 0)

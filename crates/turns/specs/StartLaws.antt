@@ -22,9 +22,9 @@ use Rattle.rules.specs.laws.Connected.{connected-single}
 use Rattle.rules.specs.laws.Decide.{connected?}
 use Rattle.rules.specs.laws.Estimate.{least-below}
 use Rattle.rules.specs.laws.Memo.{one-least}
-use Rattle.memo.specs.Walk.{walk, upTo}
-use Rattle.memo.specs.WalkLaws.{walk-hit, walk-few, walk-step, rows-start, upTo-none}
-use Rattle.memo.specs.Vectors.{written}
+use Rattle.rows.specs.Walk.{walk, upTo}
+use Rattle.rows.specs.WalkLaws.{walk-hit, walk-few, walk-step, rows-start, upTo-none}
+use Rattle.skips.specs.Vectors.{written}
 use Rattle.memo.specs.Layout.{countsTo, starts, cellsTo, cellStarts}
 use Rattle.memo.specs.LayoutLaws.{written-over, front, still-long}
 use Rattle.memo.specs.ColumnLaws.{written-push, counts-at, length-starts}

@@ -27,8 +27,8 @@ use Rattle.rules.specs.laws.Choice.{Best}
 use Rattle.rules.specs.laws.Choice as order
 use Rattle.rules.specs.laws.Handed.{JoinablePair}
 use Rattle.rules.specs.laws.Complete.{mine, met-joinable}
-use Rattle.memo.specs.Walk.{upTo}
-use Rattle.memo.specs.SizeRows.{SizeRows, InOrder, Stands}
+use Rattle.rows.specs.Walk.{upTo}
+use Rattle.skips.specs.SizeRows.{SizeRows, InOrder, Stands}
 use Rattle.memo.specs.FindLaws.{rows-sized, rows-in-order, rows-stand}
 use Rattle.memo.specs.LayoutLaws.{rows-part}
 use Rattle.turns.specs.declared.turn.Worker.{Worker}

@@ -19,10 +19,10 @@ use Rattle.rules.specs.laws.Choice.{Best, best-unique}
 use Rattle.rules.specs.laws.Rows.{memo-once}
 use Rattle.results.specs.declared.price.Choice.{Choice}
 use Rattle.pairs.specs.declared.places.Place.{Place}
-use Rattle.pairs.specs.declared.shares.Share.{Share}
+use Rattle.shares.specs.declared.Share.{Share}
 use Rattle.turns.specs.declared.turn.Worker.{Worker}
 use Rattle.turns.specs.declared.turn.Handed as code
-use Rattle.pairs.specs.Shares.{shareOf}
+use Rattle.shares.specs.Shares.{shareOf}
 use Rattle.pairs.specs.Places.{startOf, candidateAt, metAt, ownAt, At, NextFrom}
 use Rattle.pairs.specs.PlaceLaws.{start-mono, first-from, memo-inside}
 use Rattle.pairs.specs.GroundLaws.{at-number}

@@ -10,8 +10,8 @@ ghost use Rattle.turns.specs.Standing.{Opened};
 use super::turn::Worker;
 use pairs::find::count_candidates;
 use pairs::find::first_pair;
-use pairs::shares::share_of;
 use rules::Scheme;
+use shares::share_of;
 
 // Places each of `count` workers at its first joinable pair of size `s`, with its share of the size.
 pub fn open(

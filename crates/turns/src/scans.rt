@@ -2,7 +2,7 @@
 ghost use mathlib.Core.Path.{_≡_};
 ghost use Prim.Native.Nat.{_≤_};
 ghost use lib.ListN.{length};
-ghost use Rattle.memo.specs.Vectors.{written};
+ghost use Rattle.skips.specs.Vectors.{written};
 
 // Writes the scan costs into the rows of one table, which are the memo's first, in the tables' order.
 pub fn lay_scans(scans: &[u64], costs: &mut [u64])

@@ -6,11 +6,11 @@ ghost use Rattle.turns.specs.Standing.{columns, Board, Ready, nobody, wo
 use pairs::find::next_pair;
 use pairs::places::Place;
 use pairs::places::nowhere;
-use pairs::shares::Share;
 use results::keep::keep;
 use results::price::price;
 use results::seek::seek;
 use rules::Scheme;
+use shares::Share;
 
 // A worker of the table: its share of the size, its place, the memo row of its last result, how many pairs it was handed.
 pub struct Worker {

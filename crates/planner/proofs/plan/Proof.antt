@@ -5,7 +5,7 @@ use Rattle.query.specs.Lists.{queryOf}
 use Rattle.rules.specs.declared.Verdict.{Verdict}
 use Rattle.planner.specs.Plans.{memoryOf, inputOf}
 use Rattle.planner.specs.PlanLaws.{checks-are, refused-answer, lay-ready, laid-lengths, planned-checks, planned-rooms, search-ready, rows-some, rows-few, rows-fit, scheme-known, planned-given}
-use Rattle.planner.specs.SearchLaws.{logged-lengths}
+use Rattle.runs.specs.SearchLaws.{logged-lengths}
 use Rattle.planner.proofs.plan.Statement.{statement}
 use Rattle.planner.proofs.plan.Tie as tie
 

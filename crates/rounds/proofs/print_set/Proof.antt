@@ -2,7 +2,7 @@ use Prim.Native.Nat.{_^_, _<_}
 use native.Mathlib.Omega.{arith}
 use borrow.Author.Needs.{needs}
 use Rattle.rules.specs.laws.Sets.{holds-lt}
-use Rattle.memo.specs.VectorLaws.{lowest-le, lowest-less}
+use Rattle.skips.specs.VectorLaws.{lowest-le, lowest-less}
 use Rattle.rounds.proofs.print_set.Statement.{statement}
 use Rattle.rounds.proofs.print_set.Tie as tie
 

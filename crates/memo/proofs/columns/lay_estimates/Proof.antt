@@ -5,7 +5,7 @@ use native.Mathlib.Omega.{arith}
 use lib.ListN.{length, length-set, take}
 use Rattle.rules.specs.Query.{graphOf}
 use Rattle.rules.specs.Estimate.{estimate}
-use Rattle.memo.specs.Vectors.{written}
+use Rattle.skips.specs.Vectors.{written}
 use Rattle.memo.specs.ColumnLaws.{column-more}
 use Rattle.memo.proofs.columns.lay_estimates.Statement.{statement}
 use Rattle.memo.proofs.columns.lay_estimates.Tie as tie

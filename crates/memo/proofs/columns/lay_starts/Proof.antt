@@ -4,9 +4,9 @@ use native.Mathlib.Nat.{mul-le-mul}
 use native.Mathlib.Omega.{arith}
 use lib.ListN.{length, set, length-set}
 use Rattle.rules.specs.Query.{graphOf}
-use Rattle.memo.specs.Walk.{upTo}
-use Rattle.memo.specs.WalkLaws.{upTo-none, length-more, rows-fit}
-use Rattle.memo.specs.Vectors.{written}
+use Rattle.rows.specs.Walk.{upTo}
+use Rattle.rows.specs.WalkLaws.{upTo-none, length-more, rows-fit}
+use Rattle.skips.specs.Vectors.{written}
 use Rattle.memo.specs.Layout.{cellsTo, countsTo}
 use Rattle.memo.specs.ColumnLaws.{counts-none, counts-more, counts-end}
 use Rattle.memo.specs.LayoutLaws.{cells-start, cells-count}

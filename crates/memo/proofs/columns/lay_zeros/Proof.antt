@@ -2,7 +2,7 @@ use mathlib.Core.Path.{_≡_, refl, _∙_}
 use Prim.Native.Nat.{_-_, _≤_}
 use native.Mathlib.Omega.{arith}
 use lib.ListN.{length, length-set, replicate}
-use Rattle.memo.specs.Vectors.{written}
+use Rattle.skips.specs.Vectors.{written}
 use Rattle.memo.specs.ColumnLaws.{zeros-more}
 use Rattle.memo.proofs.columns.lay_zeros.Statement.{statement}
 use Rattle.memo.proofs.columns.lay_zeros.Tie as tie

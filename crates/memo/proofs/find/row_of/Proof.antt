@@ -1,7 +1,7 @@
 use mathlib.Core.Path.{sym, _∙_}
 use Prim.Native.Nat.{ℕ, _+_, _-_, _/_, _≤_}
 use native.Mathlib.Omega.{arith}
-use Rattle.memo.specs.SizeRows.{Stands}
+use Rattle.skips.specs.SizeRows.{Stands}
 use Rattle.memo.specs.FindLaws.{look-behind, look-ahead}
 use Rattle.memo.proofs.find.row_of.Statement.{statement}
 use Rattle.memo.proofs.find.row_of.Tie as tie

@@ -3,9 +3,9 @@ use Prim.Native.Nat.{_-_, _≤_}
 use native.Mathlib.Omega.{arith}
 use lib.ListN.{length}
 use Rattle.rules.specs.Query.{graphOf}
-use Rattle.memo.specs.Walk.{upTo}
-use Rattle.memo.specs.WalkLaws.{upTo-none}
-use Rattle.memo.specs.Vectors.{written}
+use Rattle.rows.specs.Walk.{upTo}
+use Rattle.rows.specs.WalkLaws.{upTo-none}
+use Rattle.skips.specs.Vectors.{written}
 use Rattle.memo.specs.Layout.{cellsTo}
 use Rattle.memo.specs.LayoutLaws.{NextSize, cells-start, cells-all, rows-next, rows-inside, cells-next-at, cells-inside, size-ready, wrote-size}
 use Rattle.memo.proofs.layout.lay_skips.Statement.{statement}

@@ -1,14 +1,14 @@
-use mathlib.Core.Path.{_≡_, sym, ap, _∙_}
+use mathlib.Core.Path.{_≡_, refl, sym, ap, _∙_}
 use mathlib.Core.Logic.{⊎-elim}
 use Prim.Native.Nat.{_+_, _-_, _≤_}
 use native.Mathlib.Nat.{le-refl}
-use native.Mathlib.Omega.{arith}
 use lib.ListN.{getD}
 use Rattle.rules.specs.Query.{graphOf}
 use Rattle.pairs.specs.Places.{firstOf, RowFrom}
 use Rattle.pairs.specs.SpanLaws.{share-fits}
 use Rattle.pairs.specs.LeafLaws.{Walked, walked-none, walked-on}
 use Rattle.pairs.specs.FindLaws.{Clear, clear-none, clear-on, Sized, sized-of, Rowed, few-all, sets-inside, first-le-end, rowed-few, rowed-of, rowed-clear, rowed-next, rowed-place, rowed-found, size-next, none-left}
+use Rattle.pairs.specs.FitLaws.{few-fit, few-cell, cell-fits, row-fits, place-fits, row-few, part-few, le-same, le-more, not-past, half-le, less-size, less-row, less-inner, inner-fits, end-fits, end-cell-fits, size-fits, next-size-fits, next-cell-fits, inner-in, end-in, size-in, next-size-in, first-ready, rows-forward, row-behind, rows-done}
 use Rattle.pairs.proofs.find.find.Statement.{statement}
 use Rattle.pairs.proofs.find.find.Tie as tie
 
@@ -39,82 +39,49 @@ find-holds c =
     (le-refl _, s .pre .1 .1 .1, clear-none g (s .args .s) (s .args .share) (s .args .ahead))
 
 sub-base : tie.Need-sub-base Inv-loop2 μ-loop2 Inv-loop μ-loop Inv-find μ-find
-sub-base c = omega arith
+sub-base c = half-le (c .find-test .taken)
 
 mul-base : tie.Need-mul-base Inv-loop2 μ-loop2 Inv-loop μ-loop Inv-find μ-find
-mul-base c =
-    let s = c .before .before .before .before .before .before .before .before .before .before in
-    let f = c .before .find in
-    omega (arith, s .pre .1 .0 .starts-long, f .inv .1 .known, f .inv .1 .two)
+mul-base c = inner-fits (c .before .before .before .before .before .before .before .before .before .before .pre .0) (c .before .find .inv .1) (c .find-test .taken)
 
 shared-slice-read-base : tie.Need-shared-slice-read-base Inv-loop2 μ-loop2 Inv-loop μ-loop Inv-find μ-find
-shared-slice-read-base c =
-    let s = c .before .before .before .before .before .before .before .before .before .before .before in
-    let f = c .before .before .find in
-    omega (arith, s .pre .1 .0 .starts-long, f .inv .1 .known, f .inv .1 .two)
+shared-slice-read-base c = inner-in (c .before .before .before .before .before .before .before .before .before .before .before .pre .0) (c .before .before .find .inv .1) (c .before .find-test .taken) (c .before .before .before .before .before .before .before .before .before .before .before .pre .1 .0 .starts-long)
 
 sub-end : tie.Need-sub-end Inv-loop2 μ-loop2 Inv-loop μ-loop Inv-find μ-find
-sub-end c = omega arith
+sub-end c = half-le (c .before .find-test .taken)
 
 add-end : tie.Need-add-end Inv-loop2 μ-loop2 Inv-loop μ-loop Inv-find μ-find
-add-end c =
-    let s = c .before .before .before .before .before .before .before .before .before .before .before in
-    let f = c .before .before .find in
-    omega (arith, s .pre .1 .0 .starts-long, f .inv .1 .known, f .inv .1 .two)
+add-end c = end-fits (c .before .before .before .before .before .before .before .before .before .before .before .pre .0) (c .before .before .find .inv .1) (c .before .find-test .taken)
 
 mul-end : tie.Need-mul-end Inv-loop2 μ-loop2 Inv-loop μ-loop Inv-find μ-find
-mul-end c =
-    let s = c .before .before .before .before .before .before .before .before .before .before .before in
-    let f = c .before .before .find in
-    omega (arith, s .pre .1 .0 .starts-long, f .inv .1 .known, f .inv .1 .two)
+mul-end c = end-cell-fits (c .before .before .before .before .before .before .before .before .before .before .before .pre .0) (c .before .before .find .inv .1) (c .before .find-test .taken)
 
 shared-slice-read-end : tie.Need-shared-slice-read-end Inv-loop2 μ-loop2 Inv-loop μ-loop Inv-find μ-find
-shared-slice-read-end c =
-    let s = c .before .before .before .before .before .before .before .before .before .before .before .before in
-    let f = c .before .before .before .find in
-    omega (arith, s .pre .1 .0 .starts-long, f .inv .1 .known, f .inv .1 .two)
+shared-slice-read-end c = end-in (c .before .before .before .before .before .before .before .before .before .before .before .before .pre .0) (c .before .before .before .find .inv .1) (c .before .before .find-test .taken) (c .before .before .before .before .before .before .before .before .before .before .before .before .pre .1 .0 .starts-long)
 
 mul-rows-from : tie.Need-mul-rows-from Inv-loop2 μ-loop2 Inv-loop μ-loop Inv-find μ-find
-mul-rows-from c =
-    let s = c .before .before .before .before .before .before .before .before .before .before .before .before in
-    let f = c .before .before .before .find in
-    omega (arith, s .pre .1 .0 .starts-long, f .inv .1 .known, f .inv .1 .two)
+mul-rows-from c = size-fits (c .before .before .before .before .before .before .before .before .before .before .before .before .pre .0) (c .before .before .before .find .inv .1) (c .before .before .find-test .taken)
 
 shared-slice-read-rows-from : tie.Need-shared-slice-read-rows-from Inv-loop2 μ-loop2 Inv-loop μ-loop Inv-find μ-find
-shared-slice-read-rows-from c =
-    let s = c .before .before .before .before .before .before .before .before .before .before .before .before .before in
-    let f = c .before .before .before .before .find in
-    omega (arith, s .pre .1 .0 .starts-long, f .inv .1 .known, f .inv .1 .two)
+shared-slice-read-rows-from c = size-in (c .before .before .before .before .before .before .before .before .before .before .before .before .before .pre .0) (c .before .before .before .before .find .inv .1) (c .before .before .before .find-test .taken) (c .before .before .before .before .before .before .before .before .before .before .before .before .before .pre .1 .0 .starts-long)
 
 add-rows-to : tie.Need-add-rows-to Inv-loop2 μ-loop2 Inv-loop μ-loop Inv-find μ-find
-add-rows-to c = omega arith
+add-rows-to c = next-size-fits (c .before .before .before .before .before .before .before .before .before .before .before .before .before .pre .0) (c .before .before .before .before .find .inv .1) (c .before .before .before .find-test .taken)
 
 mul-rows-to : tie.Need-mul-rows-to Inv-loop2 μ-loop2 Inv-loop μ-loop Inv-find μ-find
-mul-rows-to c =
-    let s = c .before .before .before .before .before .before .before .before .before .before .before .before .before in
-    let f = c .before .before .before .before .find in
-    omega (arith, s .pre .1 .0 .starts-long, f .inv .1 .known, f .inv .1 .two)
+mul-rows-to c = next-cell-fits (c .before .before .before .before .before .before .before .before .before .before .before .before .before .pre .0) (c .before .before .before .before .find .inv .1) (c .before .before .before .find-test .taken)
 
 shared-slice-read-rows-to : tie.Need-shared-slice-read-rows-to Inv-loop2 μ-loop2 Inv-loop μ-loop Inv-find μ-find
-shared-slice-read-rows-to c =
-    let s = c .before .before .before .before .before .before .before .before .before .before .before .before .before .before in
-    let f = c .before .before .before .before .before .find in
-    omega (arith, s .pre .1 .0 .starts-long, f .inv .1 .known, f .inv .1 .two)
+shared-slice-read-rows-to c = next-size-in (c .before .before .before .before .before .before .before .before .before .before .before .before .before .before .pre .0) (c .before .before .before .before .before .find .inv .1) (c .before .before .before .before .find-test .taken) (c .before .before .before .before .before .before .before .before .before .before .before .before .before .before .pre .1 .0 .starts-long)
 
 sub-cell : tie.Need-sub-cell Inv-loop2 μ-loop2 Inv-loop μ-loop Inv-find μ-find
-sub-cell c = omega arith
+sub-cell c = half-le (c .before .before .before .before .find-test .taken)
 
 mul-cell : tie.Need-mul-cell Inv-loop2 μ-loop2 Inv-loop μ-loop Inv-find μ-find
-mul-cell c =
-    let s = c .before .before .before .before .before .before .before .before .before .before .before .before .before .before in
-    let f = c .before .before .before .before .before .find in
-    omega (arith, s .pre .1 .0 .cells-long, f .inv .1 .known, f .inv .1 .two)
+mul-cell c = inner-fits (c .before .before .before .before .before .before .before .before .before .before .before .before .before .before .pre .0) (c .before .before .before .before .before .find .inv .1) (c .before .before .before .before .find-test .taken)
 
 shared-slice-read-cell : tie.Need-shared-slice-read-cell Inv-loop2 μ-loop2 Inv-loop μ-loop Inv-find μ-find
-shared-slice-read-cell c =
-    let s = c .before .before .before .before .before .before .before .before .before .before .before .before .before .before .before in
-    let f = c .before .before .before .before .before .before .find in
-    omega (arith, s .pre .1 .0 .cells-long, f .inv .1 .known, f .inv .1 .two)
+shared-slice-read-cell c = inner-in (c .before .before .before .before .before .before .before .before .before .before .before .before .before .before .before .pre .0) (c .before .before .before .before .before .before .find .inv .1) (c .before .before .before .before .before .find-test .taken) (c .before .before .before .before .before .before .before .before .before .before .before .before .before .before .before .pre .1 .0 .cells-long)
 
 loop-holds : tie.Need-loop-holds Inv-loop2 μ-loop2 Inv-loop μ-loop Inv-find μ-find
 loop-holds c =
@@ -129,7 +96,7 @@ mul-x c =
     let g = graphOf (s .args .rows .now) (s .args .left .now) (s .args .right .now) (s .args .divisors .now) in
     let f = c .before .before .before .before .before .before .before .before .find in
     let l = c .before .loop in
-    omega (arith, sets-inside g (s .args .sets .now) (s .args .skips .now) (s .args .starts .now) (s .args .cells .now) (s .pre .1 .0) (s .pre .0) (s .args .s) (s .args .share) (s .pre .1 .1 .0) (f .d) (l .i) (l .number) _ _ _ _ _ (l .inv .2) (l .inv .0) (c .loop-test .taken))
+    cell-fits (c .loop-test .taken) (few-all g (s .args .sets .now) (s .args .skips .now) (s .args .starts .now) (s .args .cells .now) (s .pre .1 .0) (s .pre .0) (s .args .s) (s .args .share) (s .pre .1 .1 .0) (f .d) (l .i) (l .number) _ _ _ _ _ (l .inv .2) (l .inv .0) (c .loop-test .taken) .2)
 
 shared-slice-read-x : tie.Need-shared-slice-read-x Inv-loop2 μ-loop2 Inv-loop μ-loop Inv-find μ-find
 shared-slice-read-x c =
@@ -145,17 +112,17 @@ first-of-requires c κs =
     let g = graphOf (s .args .rows .now) (s .args .left .now) (s .args .right .now) (s .args .divisors .now) in
     let f = c .before .before .before .before .before .before .before .before .before .find in
     let l = c .before .before .loop in
-    omega (arith, s .pre .1 .0 .starts-long, s .pre .0 .few-tables, l .inv .2 .known, l .inv .2 .from-one, l .inv .0 .half, few-all g (s .args .sets .now) (s .args .skips .now) (s .args .starts .now) (s .args .cells .now) (s .pre .1 .0) (s .pre .0) (s .args .s) (s .args .share) (s .pre .1 .1 .0) (f .d) (l .i) (l .number) _ _ _ _ _ (l .inv .2) (l .inv .0) (c .before .loop-test .taken) .2)
+    first-ready (s .pre .0) (l .inv .2) (l .inv .0 .half) (s .pre .1 .0 .starts-long) (row-few refl (c .before .loop-test .taken) (few-all g (s .args .sets .now) (s .args .skips .now) (s .args .starts .now) (s .args .cells .now) (s .pre .1 .0) (s .pre .0) (s .args .s) (s .args .share) (s .pre .1 .1 .0) (f .d) (l .i) (l .number) _ _ _ _ _ (l .inv .2) (l .inv .0) (c .before .loop-test .taken) .2))
 
 sub-span-of : tie.Need-sub-span-of Inv-loop2 μ-loop2 Inv-loop μ-loop Inv-find μ-find
 sub-span-of c =
     let l = c .before .before .before .loop in
-    omega (arith, l .inv .0 .from-is, l .inv .2 .row-from)
+    rows-forward (l .inv .0) (l .inv .2)
 
 sub-span-of-2 : tie.Need-sub-span-of-2 Inv-loop2 μ-loop2 Inv-loop μ-loop Inv-find μ-find
 sub-span-of-2 c =
     let l = c .before .before .before .loop in
-    omega (arith, l .inv .0 .from-is, l .inv .2 .row-from)
+    row-behind (l .inv .0) (l .inv .2)
 
 span-of-requires : tie.Need-span-of-requires Inv-loop2 μ-loop2 Inv-loop μ-loop Inv-find μ-find
 span-of-requires c κs =
@@ -166,7 +133,7 @@ span-of-requires c κs =
     let few = few-all g (s .args .sets .now) (s .args .skips .now) (s .args .starts .now) (s .args .cells .now) (s .pre .1 .0) (s .pre .0) (s .args .s) (s .args .share) (s .pre .1 .1 .0) (f .d) (l .i) (l .number) _ _ _ _ _ (l .inv .2) (l .inv .0) (c .before .before .loop-test .taken) in (
       share-fits g (s .args .s) (s .args .share) (s .pre .1 .1 .0) (s .pre .0) (l .inv .2 .known),
       few .0,
-      omega (arith, few .2),
+      part-few _ (few .2),
       first-le-end g (s .args .sets .now) (s .args .skips .now) (s .args .starts .now) (s .args .cells .now) (s .pre .1 .0) (s .pre .0) (s .args .s) (s .args .share) (s .pre .1 .1 .0) (f .d) (l .i) (l .number) _ _ _ _ _ (l .inv .2) (l .inv .0) (c .before .before .loop-test .taken) (c .first-of .result) (c .first-of .ensures),
       few .1,
     )
@@ -186,22 +153,18 @@ loop2-holds c =
 mul-joinable : tie.Need-mul-joinable Inv-loop2 μ-loop2 Inv-loop μ-loop Inv-find μ-find
 mul-joinable c =
     let m = c .before .before .loop2 in
-    let r = m .inv .0 .span-cells .rows _ (m .inv .1 .from) (c .if1 .taken) in
-    omega (arith, r .inside, r .early)
+    few-cell (m .inv .0 .span-cells .rows _ (m .inv .1 .from) (c .if1 .taken) .early)
 
 shared-slice-read-joinable : tie.Need-shared-slice-read-joinable Inv-loop2 μ-loop2 Inv-loop μ-loop Inv-find μ-find
 shared-slice-read-joinable c =
     let m = c .before .before .before .loop2 in
-    let r = m .inv .0 .span-cells .rows _ (m .inv .1 .from) (c .before .if1 .taken) in
-    omega (arith, r .inside, r .early)
+    m .inv .0 .span-cells .rows _ (m .inv .1 .from) (c .before .if1 .taken) .inside
 
 joinable-requires : tie.Need-joinable-requires Inv-loop2 μ-loop2 Inv-loop μ-loop Inv-find μ-find
 joinable-requires c κs = c .before .before .before .before .before .before .before .before .before .before .before .before .before .before .before .before .before .before .before .before .before .before .before .before .pre .0
 
 sub-onward : tie.Need-sub-onward Inv-loop2 μ-loop2 Inv-loop μ-loop Inv-find μ-find
-sub-onward c =
-    let m = c .before .before .before .before .before .loop2 in
-    omega (arith, m .inv .0 .half)
+sub-onward c = half-le (c .before .before .before .before .before .loop2 .inv .0 .half)
 
 onward-requires : tie.Need-onward-requires Inv-loop2 μ-loop2 Inv-loop μ-loop Inv-find μ-find
 onward-requires c κs =
@@ -210,7 +173,7 @@ onward-requires c κs =
     (z .rows _ (m .inv .1 .from) (c .before .before .before .if1 .taken), (z .some-step, z .few-step))
 
 loop2-less : tie.Need-loop2-less Inv-loop2 μ-loop2 Inv-loop μ-loop Inv-find μ-find
-loop2-less c = omega (arith, c .onward .ensures .after)
+loop2-less c = less-inner (c .onward .ensures .after) (c .before .before .before .before .if1 .taken)
 
 loop2-again : tie.Need-loop2-again Inv-loop2 μ-loop2 Inv-loop μ-loop Inv-find μ-find
 loop2-again c =
@@ -218,16 +181,14 @@ loop2-again c =
     (m .inv .0, walked-on _ _ _ _ (m .inv .1) (c .before .before .joinable .ensures) (c .before .if2 .left) (c .onward .ensures), m .inv .2, m .inv .3)
 
 sub-number : tie.Need-sub-number Inv-loop2 μ-loop2 Inv-loop μ-loop Inv-find μ-find
-sub-number c =
-    let m = c .before .before .loop2 in
-    omega (arith, m .inv .0 .first-end)
+sub-number c = c .before .before .loop2 .inv .0 .first-end
 
 add-number : tie.Need-add-number Inv-loop2 μ-loop2 Inv-loop μ-loop Inv-find μ-find
 add-number c =
     let s = c .before .before .before .before .before .before .before .before .before .before .before .before .before .before .before .before .before .before .before .before .before .before .before in
     let g = graphOf (s .args .rows .now) (s .args .left .now) (s .args .right .now) (s .args .divisors .now) in
     let m = c .before .before .loop2 in
-    omega (arith, rowed-few g (s .args .sets .now) (s .args .skips .now) (s .args .starts .now) (s .args .cells .now) (s .pre .1 .0) (s .pre .0) (s .args .s) (s .args .share) (s .pre .1 .1 .0) _ _ _ _ _ _ _ _ (m .inv .0) _ (m .inv .1) (c .if1 .left))
+    few-fit (rowed-few g (s .args .sets .now) (s .args .skips .now) (s .args .starts .now) (s .args .cells .now) (s .pre .1 .0) (s .pre .0) (s .args .s) (s .args .share) (s .pre .1 .1 .0) _ _ _ _ _ _ _ _ (m .inv .0) _ (m .inv .1) (c .if1 .left))
 
 add-i : tie.Need-add-i Inv-loop2 μ-loop2 Inv-loop μ-loop Inv-find μ-find
 add-i c =
@@ -235,10 +196,10 @@ add-i c =
     let g = graphOf (s .args .rows .now) (s .args .left .now) (s .args .right .now) (s .args .divisors .now) in
     let f = c .before .before .before .before .before .before .before .before .before .before .before .before .before .before .find in
     let l = c .before .before .before .before .before .before .before .loop in
-    omega (arith, few-all g (s .args .sets .now) (s .args .skips .now) (s .args .starts .now) (s .args .cells .now) (s .pre .1 .0) (s .pre .0) (s .args .s) (s .args .share) (s .pre .1 .1 .0) (f .d) (l .i) (l .number) _ _ _ _ _ (l .inv .2) (l .inv .0) (c .before .before .before .before .before .before .loop-test .taken) .2)
+    row-fits (c .before .before .before .before .before .before .loop-test .taken) (few-all g (s .args .sets .now) (s .args .skips .now) (s .args .starts .now) (s .args .cells .now) (s .pre .1 .0) (s .pre .0) (s .args .s) (s .args .share) (s .pre .1 .1 .0) (f .d) (l .i) (l .number) _ _ _ _ _ (l .inv .2) (l .inv .0) (c .before .before .before .before .before .before .loop-test .taken) .2)
 
 loop-less : tie.Need-loop-less Inv-loop2 μ-loop2 Inv-loop μ-loop Inv-find μ-find
-loop-less c = omega arith
+loop-less c = less-row (c .before .before .before .before .before .before .loop-test .taken)
 
 loop-again : tie.Need-loop-again Inv-loop2 μ-loop2 Inv-loop μ-loop Inv-find μ-find
 loop-again c =
@@ -247,16 +208,16 @@ loop-again c =
     let l = c .before .before .before .before .before .before .before .loop in
     let m = c .before .before .loop2 in (
       l .inv .0,
-      omega (arith, l .inv .1),
+      le-more _ (l .inv .1),
       rowed-next g (s .args .sets .now) (s .args .skips .now) (s .args .starts .now) (s .args .cells .now) (s .pre .1 .0) (s .pre .0) (s .args .s) (s .args .share) (s .pre .1 .1 .0) _ _ _ _ _ _ _ _ (m .inv .0) _ (m .inv .1) (c .if1 .left),
       clear-on g (s .args .s) (s .args .share) (s .args .ahead) (l .number) _ (l .inv .3) (rowed-clear g (s .args .sets .now) (s .args .skips .now) (s .args .starts .now) (s .args .cells .now) (s .pre .1 .0) (s .pre .0) (s .args .s) (s .args .share) (s .pre .1 .1 .0) _ _ _ _ _ _ _ _ (m .inv .0) _ (m .inv .1) (c .if1 .left)),
     )
 
 add-d : tie.Need-add-d Inv-loop2 μ-loop2 Inv-loop μ-loop Inv-find μ-find
-add-d c = omega arith
+add-d c = next-size-fits (c .before .before .before .before .before .before .before .before .before .before .before .before .before .before .before .before .before .pre .0) (c .before .before .before .before .before .before .before .before .find .inv .1) (c .before .before .before .before .before .before .before .find-test .taken)
 
 find-less : tie.Need-find-less Inv-loop2 μ-loop2 Inv-loop μ-loop Inv-find μ-find
-find-less c = omega arith
+find-less c = less-size (c .before .before .before .before .before .before .before .find-test .taken)
 
 find-again : tie.Need-find-again Inv-loop2 μ-loop2 Inv-loop μ-loop Inv-find μ-find
 find-again c =
@@ -264,7 +225,7 @@ find-again c =
     let g = graphOf (s .args .rows .now) (s .args .left .now) (s .args .right .now) (s .args .divisors .now) in
     let f = c .before .before .before .before .before .before .before .before .find in
     let l = c .before .loop in
-    (l .inv .1, size-next g (s .args .sets .now) (s .args .skips .now) (s .args .starts .now) (s .args .cells .now) (s .pre .1 .0) (s .pre .0) (s .args .s) (s .args .share) (s .pre .1 .1 .0) (f .d) (l .i) (l .number) (l .inv .2) (l .inv .0 .half) (omega (arith, l .inv .0 .to-is)), l .inv .3)
+    (l .inv .1, size-next g (s .args .sets .now) (s .args .skips .now) (s .args .starts .now) (s .args .cells .now) (s .pre .1 .0) (s .pre .0) (s .args .s) (s .args .share) (s .pre .1 .1 .0) (f .d) (l .i) (l .number) (l .inv .2) (l .inv .0 .half) (rows-done (l .inv .0) (c .loop-test .left)), l .inv .3)
 
 nowhere-requires : tie.Need-nowhere-requires Inv-loop2 μ-loop2 Inv-loop μ-loop Inv-find μ-find
 nowhere-requires c κs = tt
@@ -281,8 +242,8 @@ first-of-requires-2 c κs =
     let s = c .before .before .before .before .before .before .before .before .before .before .before in
     let g = graphOf (s .args .rows .now) (s .args .left .now) (s .args .right .now) (s .args .divisors .now) in
     let f = c .before .before .find in
-    ⊎-elim (λ w. absurd (omega arith))
-    (λ w. omega (arith, w .17, s .pre .1 .0 .starts-long, s .pre .0 .few-tables, f .inv .1 .known, f .inv .1 .from-one, few-all g (s .args .sets .now) (s .args .skips .now) (s .args .starts .now) (s .args .cells .now) (s .pre .1 .0) (s .pre .0) (s .args .s) (s .args .share) (s .pre .1 .1 .0) (f .d) (w .6 .i) (w .6 .number) _ _ _ _ _ (w .6 .inv .2) (w .6 .inv .0) (w .7 .taken) .2))
+    ⊎-elim (λ w. absurd (not-past (c .if3 .left) (w .0 .left)))
+    (λ w. first-ready (s .pre .0) (f .inv .1) (c .if3 .left) (s .pre .1 .0 .starts-long) (row-few (w .17) (w .7 .taken) (few-all g (s .args .sets .now) (s .args .skips .now) (s .args .starts .now) (s .args .cells .now) (s .pre .1 .0) (s .pre .0) (s .args .s) (s .args .share) (s .pre .1 .1 .0) (f .d) (w .6 .i) (w .6 .number) _ _ _ _ _ (w .6 .inv .2) (w .6 .inv .0) (w .7 .taken) .2)))
     (c .before .find-test .came)
 
 sub-t49 : tie.Need-sub-t49 Inv-loop2 μ-loop2 Inv-loop μ-loop Inv-find μ-find
@@ -290,8 +251,8 @@ sub-t49 c =
     let s = c .before .before .before .before .before .before .before .before .before .before .before .before .before in
     let g = graphOf (s .args .rows .now) (s .args .left .now) (s .args .right .now) (s .args .divisors .now) in
     let f = c .before .before .before .before .find in
-    ⊎-elim (λ w. absurd (omega arith))
-    (λ w. let e : c .before .first-of2 .result ≡ w .9 .result = c .before .first-of2 .ensures ∙ ap (firstOf (s .args .starts .now) (s .args .s) (f .d)) (w .17) ∙ sym (w .9 .ensures) in let n = rowed-place g (s .args .sets .now) (s .args .skips .now) (s .args .starts .now) (s .args .cells .now) (s .pre .1 .0) (s .pre .0) (s .args .s) (s .args .share) (s .pre .1 .1 .0) _ _ _ _ _ _ _ _ (w .11 .inv .0) (w .11 .j) (w .11 .inv .1) (w .13 .taken) in omega (arith, e, w .18, n .0))
+    ⊎-elim (λ w. absurd (not-past (c .before .before .if3 .left) (w .0 .left)))
+    (λ w. let e : c .before .first-of2 .result ≡ w .9 .result = c .before .first-of2 .ensures ∙ ap (firstOf (s .args .starts .now) (s .args .s) (f .d)) (w .17) ∙ sym (w .9 .ensures) in let n = rowed-place g (s .args .sets .now) (s .args .skips .now) (s .args .starts .now) (s .args .cells .now) (s .pre .1 .0) (s .pre .0) (s .args .s) (s .args .share) (s .pre .1 .1 .0) _ _ _ _ _ _ _ _ (w .11 .inv .0) (w .11 .j) (w .11 .inv .1) (w .13 .taken) in le-same e (w .18) (n .0))
     (c .before .before .before .find-test .came)
 
 add-t50 : tie.Need-add-t50 Inv-loop2 μ-loop2 Inv-loop μ-loop Inv-find μ-find
@@ -299,8 +260,8 @@ add-t50 c =
     let s = c .before .before .before .before .before .before .before .before .before .before .before .before .before in
     let g = graphOf (s .args .rows .now) (s .args .left .now) (s .args .right .now) (s .args .divisors .now) in
     let f = c .before .before .before .before .find in
-    ⊎-elim (λ w. absurd (omega arith))
-    (λ w. let e : c .before .first-of2 .result ≡ w .9 .result = c .before .first-of2 .ensures ∙ ap (firstOf (s .args .starts .now) (s .args .s) (f .d)) (w .17) ∙ sym (w .9 .ensures) in let n = rowed-place g (s .args .sets .now) (s .args .skips .now) (s .args .starts .now) (s .args .cells .now) (s .pre .1 .0) (s .pre .0) (s .args .s) (s .args .share) (s .pre .1 .1 .0) _ _ _ _ _ _ _ _ (w .11 .inv .0) (w .11 .j) (w .11 .inv .1) (w .13 .taken) in omega (arith, e, w .18, w .19, n .1))
+    ⊎-elim (λ w. absurd (not-past (c .before .before .if3 .left) (w .0 .left)))
+    (λ w. let e : c .before .first-of2 .result ≡ w .9 .result = c .before .first-of2 .ensures ∙ ap (firstOf (s .args .starts .now) (s .args .s) (f .d)) (w .17) ∙ sym (w .9 .ensures) in let n = rowed-place g (s .args .sets .now) (s .args .skips .now) (s .args .starts .now) (s .args .cells .now) (s .pre .1 .0) (s .pre .0) (s .args .s) (s .args .share) (s .pre .1 .1 .0) _ _ _ _ _ _ _ _ (w .11 .inv .0) (w .11 .j) (w .11 .inv .1) (w .13 .taken) in place-fits (w .19) (w .18) e (n .1))
     (c .before .before .before .find-test .came)
 
 returns-2 : tie.Need-returns-2 Inv-loop2 μ-loop2 Inv-loop μ-loop Inv-find μ-find
@@ -308,7 +269,7 @@ returns-2 c =
     let s = c .before .before .before .before .before .before .before .before .before .before .before .before .before in
     let g = graphOf (s .args .rows .now) (s .args .left .now) (s .args .right .now) (s .args .divisors .now) in
     let f = c .before .before .before .before .find in
-    ⊎-elim (λ w. absurd (omega arith))
+    ⊎-elim (λ w. absurd (not-past (c .before .before .if3 .left) (w .0 .left)))
     (λ w. let e : c .before .first-of2 .result ≡ w .9 .result = c .before .first-of2 .ensures ∙ ap (firstOf (s .args .starts .now) (s .args .s) (f .d)) (w .17) ∙ sym (w .9 .ensures) in
     rw (w .17, w .18, w .19, e) (rowed-found g (s .args .sets .now) (s .args .skips .now) (s .args .starts .now) (s .args .cells .now) (s .pre .1 .0) (s .pre .0) (s .args .s) (s .args .share) (s .pre .1 .1 .0) _ _ _ _ _ _ _ _ (w .11 .inv .0) (w .11 .j) (w .11 .inv .1) (s .args .ahead) (w .11 .inv .2) (w .11 .inv .3) (w .13 .taken) (w .15 .ensures) (w .16 .taken)))
     (c .before .before .before .find-test .came)

@@ -1,7 +1,7 @@
 use mathlib.Core.Logic.{⊎-elim}
 use Prim.Native.Nat.{ℕ, _+_, _-_, _≤_, _<_}
 use native.Mathlib.Omega.{arith}
-use Rattle.memo.specs.SizeRows.{Stands}
+use Rattle.skips.specs.SizeRows.{Stands}
 use Rattle.results.specs.SeekLaws.{size-part, order-part, look-found, look-after, look-before}
 use Rattle.results.proofs.seek.seek.Statement.{statement}
 use Rattle.results.proofs.seek.seek.Tie as tie

@@ -3,7 +3,7 @@ use Prim.Native.Nat.{ℕ, _-_, _≤_}
 use native.Mathlib.Omega.{arith}
 use lib.ListN.{length, length-set, take}
 use lib.Seq.{take-length}
-use Rattle.memo.specs.Vectors.{written}
+use Rattle.skips.specs.Vectors.{written}
 use Rattle.turns.specs.StartLaws.{copied-more}
 use Rattle.turns.proofs.scans.lay_scans.Statement.{statement}
 use Rattle.turns.proofs.scans.lay_scans.Tie as tie

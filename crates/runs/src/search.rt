@@ -1,0 +1,135 @@
+// The turns in a row, size after size.
+ghost use mathlib.Core.Path.{_≡_};
+ghost use Rattle.query.specs.Lists.{queryOf};
+ghost use Rattle.turns.specs.Standing.{columns};
+ghost use Rattle.runs.specs.Runs.{logOf, SearchReady, SearchDone, countsOf};
+use super::log::note;
+use memo::columns::lay_starts;
+use rules::Scheme;
+use turns::open::open;
+use turns::scans::lay_scans;
+use turns::turn::Worker;
+use turns::turn::nobody;
+use turns::turn::turn;
+use turns::whose::entries_on;
+use turns::whose::lowest;
+use turns::whose::whose_turn;
+
+// How many pairs the turns handed, and how many to each worker.
+pub struct Searched {
+    pub pairs: usize,
+    pub counts: [u64; 8],
+}
+
+// Room for where the rows of each size begin: sizes 0 to N + 1, of at most 16 tables.
+const SIZES: usize = 18;
+
+// How many pairs each of eight workers was handed.
+fn counts_of(workers: [Worker; 8]) -> [u64; 8]
+    ensures { λ r. ⌜ r ≡ countsOf workers ⌝ }
+{
+    let mut counts = [0u64; 8];
+    for w in 0..8usize {
+        let worker = workers[w];
+        counts[w] = worker.handed;
+    }
+    counts
+}
+
+// Fills the memo by turns, from the smallest result size to the largest, and notes them in the log.
+pub fn search(
+    rows: &[u64],
+    scans: &[u64],
+    left: &[u64],
+    right: &[u64],
+    divisors: &[u64],
+    fixed: &[u64],
+    outer: &[u64],
+    inner: &[u64],
+    result: &[u64],
+    scheme: Scheme,
+    count: usize,
+    turns: &[u64],
+    sets: &[u64],
+    estimates: &[u64],
+    costs: &mut [u64],
+    outers: &mut [u64],
+    methods: &mut [u64],
+    skips: &[u64],
+    log_workers: &mut [u64],
+    log_driving: &mut [u64],
+    log_inner: &mut [u64],
+    log_costs: &mut [u64],
+) -> Searched
+    requires { ⌜ SearchReady (queryOf (now rows) (now scans) (now left) (now right) (now divisors) (now fixed) (now outer) (now inner) (now result)) count (now turns) (now sets) (now estimates) (now skips) (columns (now costs) (now outers) (now methods)) (logOf (now «log_workers») (now «log_driving») (now «log_inner») (now «log_costs»)) ⌝ }
+    ensures { λ r. ⌜ SearchDone (queryOf (now (rows .entry)) (now (scans .entry)) (now (left .entry)) (now (right .entry)) (now (divisors .entry)) (now (fixed .entry)) (now (outer .entry)) (now (inner .entry)) (now (result .entry))) scheme count (now (turns .entry)) (columns (now (costs .entry)) (now (outers .entry)) (now (methods .entry))) (columns (now (costs .exit)) (now (outers .exit)) (now (methods .exit))) (logOf (now («log_workers» .entry)) (now («log_driving» .entry)) (now («log_inner» .entry)) (now («log_costs» .entry))) (logOf (now («log_workers» .exit)) (now («log_driving» .exit)) (now («log_inner» .exit)) (now («log_costs» .exit))) (r .pairs) (r .counts) ⌝ }
+{
+    let mut firsts = [0usize; SIZES];
+    let mut cells = [0usize; SIZES];
+    lay_starts(rows, left, right, divisors, &mut firsts, &mut cells);
+    lay_scans(scans, costs);
+    let mut workers = [nobody(); 8];
+    let mut at = 0usize;
+    let mut pairs = 0usize;
+    for k in 1..rows.len() {
+        let s = k + 1;
+        let opened = open(
+            rows,
+            left,
+            right,
+            divisors,
+            sets,
+            skips,
+            &firsts,
+            &cells,
+            s,
+            scheme,
+            count,
+            workers,
+        );
+        workers = opened;
+        let mut low = lowest(workers, count);
+        while low < count {
+            let w = whose_turn(turns, at, low);
+            let turned = turn(
+                rows,
+                left,
+                right,
+                divisors,
+                fixed,
+                outer,
+                inner,
+                result,
+                sets,
+                estimates,
+                costs,
+                outers,
+                methods,
+                skips,
+                &firsts,
+                &cells,
+                s,
+                workers,
+                w,
+            );
+            let moved = turned.workers;
+            let pair = turned.pair;
+            workers = moved;
+            pairs = note(
+                log_workers,
+                log_driving,
+                log_inner,
+                log_costs,
+                pairs,
+                w,
+                pair,
+            );
+            at = entries_on(turns.len(), at);
+            low = lowest(workers, count);
+        }
+    }
+    Searched {
+        pairs: pairs,
+        counts: counts_of(workers),
+    }
+}
