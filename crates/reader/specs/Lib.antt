@@ -2,6 +2,8 @@ pub mod Spans
 pub mod SpanLaws
 pub mod CutLaws
 pub mod NumberLaws
+pub mod ValueLaws
 pub mod KindLaws
 pub mod ReadLaws
 pub mod Records
+pub mod StoreLaws
