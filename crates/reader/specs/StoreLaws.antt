@@ -45,15 +45,39 @@ spared-on n m a b c h s t =
 
 -- ---- all nine
 module _ {rows scans left right divisors fixed perOuter perInner perResult : List ℕ} {p : Progress} (room : Room rows scans left right divisors fixed perOuter perInner perResult) (w : Within p) (cells : List ℕ) where
+  -- ---- there is room for one more
+  module _ (kind : Kind) (x : excess kind (p .tables) (p .methods) (p .edges) ≡ false) where
+    table-more : kind ≡ Table → p .tables < maxTables
+    unfolding excess
+    table-more k = let y : leb maxTables (p .tables) ≡ false = rw k at x in leb-false maxTables (p .tables) y
+
+    method-more : kind ≡ Method → p .methods < maxMethods
+    unfolding excess
+    method-more k = let y : leb maxMethods (p .methods) ≡ false = rw k at x in leb-false maxMethods (p .methods) y
+
+    edge-more : kind ≡ Edge → p .edges < maxEdgeLines
+    unfolding excess
+    edge-more k = let y : leb maxEdgeLines (p .edges) ≡ false = rw k at x in leb-false maxEdgeLines (p .edges) y
+
+    pub table-fits : kind ≡ Table → (p .tables < length rows) × (p .tables < length scans)
+    table-fits k = let m = table-more k in (omega (arith, room .rows-fit), omega (arith, room .scans-fit))
+
+    pub method-fits : kind ≡ Method → (p .methods < length fixed) × (p .methods < length perOuter) × (p .methods < length perInner) × (p .methods < length perResult)
+    method-fits k = let m = method-more k in (omega (arith, room .fixed-fit), omega (arith, room .outer-fit), omega (arith, room .inner-fit), omega (arith, room .result-fit))
+
+    pub edge-fits : kind ≡ Edge → (p .edges < length left) × (p .edges < length right) × (p .edges < length divisors)
+    edge-fits k = let m = edge-more k in (omega (arith, room .left-fit), omega (arith, room .right-fit), omega (arith, room .divisors-fit))
+
+  -- ---- one more record of a kind
   pub table-stored : (kind : Kind) (at : ℕ) (rows′ scans′ : List ℕ) → at ≡ stage kind → kind ≡ Table → excess kind (p .tables) (p .methods) (p .edges) ≡ false
       → rows′ ≡ set rows (p .tables) (getD cells 1 0) → scans′ ≡ set scans (p .tables) (getD cells 2 0)
       → Stored kind cells p (record { tables = p .tables + 1; methods = p .methods; edges = p .edges; latest = at; workers = p .workers; scheme = p .scheme }) rows scans left right divisors fixed perOuter perInner perResult rows′ scans′ left right divisors fixed perOuter perInner perResult
-  unfolding withRecord excess
+  unfolding withRecord
   table-stored kind at rows′ scans′ s k x a b =
-      let y : leb maxTables (p .tables) ≡ false = rw k at x in
-      let m : p .tables < maxTables = leb-false maxTables (p .tables) y in
+      let r = table-fits kind x k in
+      let m = table-more kind x k in
       record {
-        read = rw (k, s, k, pushed rows rows′ (p .tables) (getD cells 1 0) (omega (arith, room .rows-fit)) a, pushed scans scans′ (p .tables) (getD cells 2 0) (omega (arith, room .scans-fit)) b) refl;
+        read = rw (k, s, k, pushed rows rows′ (p .tables) (getD cells 1 0) (r .0) a, pushed scans scans′ (p .tables) (getD cells 2 0) (r .1) b) refl;
         spare = record {
           rows-spare = spared-set rows rows′ (p .tables) (getD cells 1 0) a;
           scans-spare = spared-set scans scans′ (p .tables) (getD cells 2 0) b;
@@ -74,12 +98,12 @@ module _ {rows scans left right divisors fixed perOuter perInner perResult : Lis
   pub method-stored : (kind : Kind) (at : ℕ) (fixed′ perOuter′ perInner′ perResult′ : List ℕ) → at ≡ stage kind → kind ≡ Method → excess kind (p .tables) (p .methods) (p .edges) ≡ false
       → fixed′ ≡ set fixed (p .methods) (getD cells 0 0) → perOuter′ ≡ set perOuter (p .methods) (getD cells 1 0) → perInner′ ≡ set perInner (p .methods) (getD cells 2 0) → perResult′ ≡ set perResult (p .methods) (getD cells 3 0)
       → Stored kind cells p (record { tables = p .tables; methods = p .methods + 1; edges = p .edges; latest = at; workers = p .workers; scheme = p .scheme }) rows scans left right divisors fixed perOuter perInner perResult rows scans left right divisors fixed′ perOuter′ perInner′ perResult′
-  unfolding withRecord excess
+  unfolding withRecord
   method-stored kind at fixed′ perOuter′ perInner′ perResult′ s k x a b c d =
-      let y : leb maxMethods (p .methods) ≡ false = rw k at x in
-      let m : p .methods < maxMethods = leb-false maxMethods (p .methods) y in
+      let r = method-fits kind x k in
+      let m = method-more kind x k in
       record {
-        read = rw (k, s, k, pushed fixed fixed′ (p .methods) (getD cells 0 0) (omega (arith, room .fixed-fit)) a, pushed perOuter perOuter′ (p .methods) (getD cells 1 0) (omega (arith, room .outer-fit)) b, pushed perInner perInner′ (p .methods) (getD cells 2 0) (omega (arith, room .inner-fit)) c, pushed perResult perResult′ (p .methods) (getD cells 3 0) (omega (arith, room .result-fit)) d) refl;
+        read = rw (k, s, k, pushed fixed fixed′ (p .methods) (getD cells 0 0) (r .0) a, pushed perOuter perOuter′ (p .methods) (getD cells 1 0) (r .1) b, pushed perInner perInner′ (p .methods) (getD cells 2 0) (r .2) c, pushed perResult perResult′ (p .methods) (getD cells 3 0) (r .3) d) refl;
         spare = record {
           rows-spare = spared-same (p .tables) rows;
           scans-spare = spared-same (p .tables) scans;
@@ -100,12 +124,12 @@ module _ {rows scans left right divisors fixed perOuter perInner perResult : Lis
   pub edge-stored : (kind : Kind) (at : ℕ) (left′ right′ divisors′ : List ℕ) → at ≡ stage kind → kind ≡ Edge → excess kind (p .tables) (p .methods) (p .edges) ≡ false
       → left′ ≡ set left (p .edges) (getD cells 0 0) → right′ ≡ set right (p .edges) (getD cells 1 0) → divisors′ ≡ set divisors (p .edges) (getD cells 2 0)
       → Stored kind cells p (record { tables = p .tables; methods = p .methods; edges = p .edges + 1; latest = at; workers = p .workers; scheme = p .scheme }) rows scans left right divisors fixed perOuter perInner perResult rows scans left′ right′ divisors′ fixed perOuter perInner perResult
-  unfolding withRecord excess
+  unfolding withRecord
   edge-stored kind at left′ right′ divisors′ s k x a b c =
-      let y : leb maxEdgeLines (p .edges) ≡ false = rw k at x in
-      let m : p .edges < maxEdgeLines = leb-false maxEdgeLines (p .edges) y in
+      let r = edge-fits kind x k in
+      let m = edge-more kind x k in
       record {
-        read = rw (k, s, k, pushed left left′ (p .edges) (getD cells 0 0) (omega (arith, room .left-fit)) a, pushed right right′ (p .edges) (getD cells 1 0) (omega (arith, room .right-fit)) b, pushed divisors divisors′ (p .edges) (getD cells 2 0) (omega (arith, room .divisors-fit)) c) refl;
+        read = rw (k, s, k, pushed left left′ (p .edges) (getD cells 0 0) (r .0) a, pushed right right′ (p .edges) (getD cells 1 0) (r .1) b, pushed divisors divisors′ (p .edges) (getD cells 2 0) (r .2) c) refl;
         spare = record {
           rows-spare = spared-same (p .tables) rows;
           scans-spare = spared-same (p .tables) scans;
