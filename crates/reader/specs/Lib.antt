@@ -6,4 +6,5 @@ pub mod ValueLaws
 pub mod KindLaws
 pub mod ReadLaws
 pub mod Records
+pub mod JudgeLaws
 pub mod StoreLaws
