@@ -8,3 +8,4 @@ pub mod ReadLaws
 pub mod Records
 pub mod JudgeLaws
 pub mod StoreLaws
+pub mod LoopLaws

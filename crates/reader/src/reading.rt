@@ -1,9 +1,11 @@
 // The lines in a row: each good line's record goes to the columns of its kind.
 ghost use mathlib.Core.Path.{_≡_};
-ghost use mathlib.Core.Bool.{false};
+ghost use mathlib.Core.Bool.{false, cond};
 ghost use Prim.Native.Nat.{_<_};
+ghost use lib.Dec.{eqb};
 ghost use lib.ListN.{length, getD, set};
-ghost use Rattle.rules.specs.Reading.{excess, unfit, reading};
+ghost use Rattle.rules.specs.declared.forms.Kind.the-variants.{Crew};
+ghost use Rattle.rules.specs.Reading.{stage, excess, unfit, reading};
 ghost use Rattle.reader.specs.Records.{Room, Within, Spare, readingOf, noLine, heldAs};
 ghost use Rattle.reader.specs.StoreLaws.{Stored};
 use super::kinds::Judged;
@@ -47,6 +49,16 @@ fn stopped(number: u64, place: u64, progress: Progress) -> Held
         },
         progress: progress,
     }
+}
+
+// After the last line: 23 where the latest is no W.
+fn ended(place: u64, progress: Progress) -> Held
+    ensures { λ r. ⌜ r ≡ cond (eqb (progress .latest) (stage Crew)) (heldAs 0 0 progress) (heldAs 23 place progress) ⌝ }
+{
+    if progress.latest == stage_of(Kind::Crew) {
+        return stopped(0, 0, progress);
+    }
+    stopped(23, place, progress)
 }
 
 // 24: too long, or its last byte ends no line.
@@ -192,8 +204,5 @@ pub fn read(
         rest = &rest[end + 1..];
         place += 1;
     }
-    if progress.latest != stage_of(Kind::Crew) {
-        return stopped(23, place, progress);
-    }
-    stopped(0, 0, progress)
+    ended(place, progress)
 }
