@@ -141,9 +141,20 @@ module _ (text : List ℕ) (p : Progress) (z : p ≡ noLine) (u : Bool) (e : u �
         short = f .short;
       }
 
+-- what `ended` promises
+abbrev pub endedAs : ℕ → Progress → Held
+endedAs place p = cond (eqb (p .latest) (stage Crew)) (heldAs 0 0 p) (heldAs 23 place p)
+
+module _ (place : ℕ) (p : Progress) (h : Held) (at : ℕ) (s : at ≡ stage Crew) where
+  pub ended-crew : p .latest ≡ at → h ≡ heldAs 0 0 p → h ≡ endedAs place p
+  ended-crew e f = rw (eq-eqb (p .latest) (stage Crew) (e ∙ s)) f
+
+  pub ended-other : (p .latest ≡ at → ⊥) → h ≡ heldAs 23 place p → h ≡ endedAs place p
+  ended-other n f = rw (ne-eqb (p .latest) (stage Crew) (λ e. n (e ∙ sym s))) f
+
 module _ {text rest : List ℕ} {place : ℕ} {p : Progress} {rows scans left right divisors fixed perOuter perInner perResult rows′ scans′ left′ right′ divisors′ fixed′ perOuter′ perInner′ perResult′ : List ℕ} (r : Reads text rest place p rows scans left right divisors fixed perOuter perInner perResult rows′ scans′ left′ right′ divisors′ fixed′ perOuter′ perInner′ perResult′) where
   -- after the last line
-  pub read-end : (h : Held) → length rest ≤ 0 → h ≡ cond (eqb (p .latest) (stage Crew)) (heldAs 0 0 p) (heldAs 23 place p) → Ends text h rows scans left right divisors fixed perOuter perInner perResult rows′ scans′ left′ right′ divisors′ fixed′ perOuter′ perInner′ perResult′
+  pub read-end : (h : Held) → length rest ≤ 0 → h ≡ endedAs place p → Ends text h rows scans left right divisors fixed perOuter perInner perResult rows′ scans′ left′ right′ divisors′ fixed′ perOuter′ perInner′ perResult′
   read-end h l e = go (eqb (p .latest) (stage Crew)) e (sym (step-end place (readOf p rows′ scans′ left′ right′ divisors′ fixed′ perOuter′ perInner′ perResult′)) ∙ ap (readFrom place (readOf p rows′ scans′ left′ right′ divisors′ fixed′ perOuter′ perInner′ perResult′)) (sym (lines-none rest l)) ∙ r .goes)
     where
       go : (b : Bool) → h ≡ cond b (heldAs 0 0 p) (heldAs 23 place p)

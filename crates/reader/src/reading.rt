@@ -188,6 +188,8 @@ pub fn read(
         if judged.number != 0 {
             return stopped(judged.number, place, progress);
         }
+        rest = &rest[end + 1..];
+        place += 1;
         progress = store(
             judged,
             progress,
@@ -201,8 +203,6 @@ pub fn read(
             per_inner,
             per_result,
         );
-        rest = &rest[end + 1..];
-        place += 1;
     }
     ended(place, progress)
 }
