@@ -1,2 +1,11 @@
 pub mod Spans
+pub mod SpanLaws
+pub mod CutLaws
+pub mod NumberLaws
+pub mod ValueLaws
+pub mod KindLaws
+pub mod ReadLaws
 pub mod Records
+pub mod JudgeLaws
+pub mod StoreLaws
+pub mod LoopLaws
