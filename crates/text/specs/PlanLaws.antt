@@ -4,18 +4,19 @@ use mathlib.Core.List.{List, [], _∷_, _++_, map, List·Memᴰ}
 use Prim.Native.Nat.{ℕ, zero, suc, _+_, _-_, _^_, _≤_, _<_}
 use native.Mathlib.Decide.{decLt}
 use native.Mathlib.Omega.{arith}
-use lib.ListN.{length, getD, drop, replicate, length-append, length-replicate, getD-replicate}
+use lib.ListN.{length, getD, length-append}
 use Rattle.rules.specs.declared.Verdict.{Verdict}
 use Rattle.rules.specs.Limits.{maxTables, textRows, answerRoom}
 use Rattle.rules.specs.Lists.{over}
-use Rattle.rules.specs.Sets.{size, full}
+use Rattle.rules.specs.Sets.{size, single, full}
 use Rattle.rules.specs.Query.{Graph, Query, tableCount}
 use Rattle.rules.specs.Estimate.{estimate}
 use Rattle.rules.specs.Rows.{memo}
 use Rattle.rules.specs.Trees.{Tree, tablesOf, costOf, Least, Picked}
 use Rattle.rules.specs.Refusals.{Memory, Input, verdict}
 use Rattle.rules.specs.Checked.{Accepted}
-use Rattle.rules.specs.Answers.{Answer, Outcome, refusal, Row, Filled, Given, Planned}
+use Rattle.rules.specs.Answers as rules
+use Rattle.rules.specs.Answers.{Outcome, Row, Filled, Given, Planned}
 use Rattle.rules.specs.Writing.{planLine, joinLines, refusalLine}
 use Rattle.rules.specs.Text.{blanks, PlanText, Lined}
 use Rattle.rules.specs.laws.Lists.{in-at, length-map, at-map, over-length, over-at, over-past}
@@ -29,7 +30,9 @@ use Rattle.rules.specs.laws.Text.{given-tree}
 use Rattle.writer.specs.Put.{Put}
 use Rattle.writer.specs.PutLaws.{put-then}
 use Rattle.writer.specs.Plans.{Kept, ToPut}
-use Rattle.text.specs.Composing.{Composed}
+use Rattle.planner.specs.declared.Answer.{Answer}
+use Rattle.planner.specs.Plans.{memoryOf, outcomeOf}
+use Rattle.text.specs.Composing.{Answered, Composed}
 
 -- ---- a refusal
 -- "X, number, place": the answer's own
@@ -51,7 +54,7 @@ pub given-of : {i : Input} {o : Outcome} → Planned i o → o .answer .refusal 
 given-of {i} {o} p e = go (decLt 0 (verdict i .number))
   where
     go : Dec (0 < verdict i .number) → (verdict i .number ≡ 0) × Given i o
-    go (yes l) = absurd (omega (arith, ap (λ (a : Answer). a .refusal) (p .refused l .answer)))
+    go (yes l) = absurd (omega (arith, ap (λ (a : rules.Answer). a .refusal) (p .refused l .answer)))
     go (no z) = let v : verdict i .number ≡ 0 = omega arith in (v, p .given v)
 
 -- blank cells hold 0
@@ -139,3 +142,45 @@ planned-composed {i} {o} e g l₁ l₂ p joins =
       put = put-then p (joins (tree .tree) (tree .picked) (tree .covers));
       short = omega (arith, length-append (planLine (o .answer .best) (o .answer .pairs)) (joinLines (i .query) (tree .tree)), lines-short e g, plan-room (o .answer .best) (o .answer .pairs) l₁ l₂);
     }
+
+-- ---- what planning answered
+module _ {i : Input} {n : ℕ} {a : Answer} {sets estimates costs outers methods : List ℕ} (z : Answered i n a sets estimates costs outers methods) where
+  pub answered-refused : {before after : List ℕ} {r : ℕ} → (a .refusal ≡ 0 → ⊥) → a .refusal < 10 ^ 20 → a .place < 10 ^ 20
+      → Put before after 0 r (refusalLine (record { number = a .refusal; place = a .place })) → Composed (verdict i) i before after r
+  answered-refused = refused-composed (z .planned)
+
+  module _ (e : a .refusal ≡ 0) where
+    none : verdict i .number ≡ 0
+    none = given-of (z .planned) e .0
+
+    abbrev given : Given i (outcomeOf a (memoryOf sets estimates costs outers methods (z .skips) (z .logWorkers) (z .logDriving) (z .logInner) (z .logCosts)))
+    given = given-of (z .planned) e .1
+
+    pub answered-few : n ≤ maxTables
+    answered-few = omega (arith, z .tables, accepted i none .checked .sound .graph .few-tables)
+
+    pub answered-kept : Kept (i .query) n sets estimates costs outers methods
+    answered-kept = rw (z .tables) (kept-of (z .blank) none given)
+
+    module _ (best : a .best < 10 ^ 20) (pairs : a .pairs < 10 ^ 20) {before mid : List ℕ} {at : ℕ} (p : Put before mid 0 at (planLine (a .best) (a .pairs))) where
+      pub answered-put : {S : ℕ} → S ≡ full n → answerRoom ≤ length mid → ToPut (i .query) S at (length mid)
+      answered-put s room = rw (s, z .tables) (to-put none given best pairs (p .end) room)
+
+      pub answered-planned : {S : ℕ} {after : List ℕ} {r : ℕ} → S ≡ full n → ((t : Tree) → Picked (i .query) t → tablesOf t ≡ S → Put mid after at r (joinLines (i .query) t)) → Composed (verdict i) i before after r
+      answered-planned s joins = planned-composed none given best pairs p (λ t k c. joins t k (c ∙ ap full (sym (z .tables)) ∙ sym s))
+
+-- "the P line" fits any buffer of the entry's own
+pub plan-fits : (best pairs room : ℕ) → best < 10 ^ 20 → pairs < 10 ^ 20 → answerRoom ≤ room → 0 + length (planLine best pairs) ≤ room
+plan-fits best pairs room l₁ l₂ h = omega (arith, plan-room best pairs l₁ l₂)
+
+-- and so does an X line
+pub refusal-fits : (v : Verdict) (room : ℕ) → v .number < 10 ^ 20 → v .place < 10 ^ 20 → answerRoom ≤ room → 0 + length (refusalLine v) ≤ room
+refusal-fits v room l₁ l₂ h = omega (arith, refusal-room v l₁ l₂)
+
+-- a 64-bit number has at most 20 digits
+pub twenty-digits : (n : ℕ) → n < 2 ^ 64 → n < 10 ^ 20
+twenty-digits n l = omega arith
+
+-- all tables, as the code finds them
+pub all-tables : (n : ℕ) {s : ℕ} → s ≡ single (n + 1) → s - 1 ≡ full n
+all-tables n {s} e = let k : n + 1 - 1 ≡ n = omega arith in rw (e, k) refl

@@ -5,10 +5,11 @@ ghost use Prim.Native.Nat.{_≤_};
 ghost use lib.ListN.{length};
 ghost use Rattle.rules.specs.Limits.{answerRoom};
 ghost use Rattle.rules.specs.Lists.{over};
-ghost use Rattle.rules.specs.Refusals.{verdict};
+ghost use Rattle.rules.specs.Refusals.{Input, verdict};
 ghost use Rattle.rules.specs.Text.{textInput, inputOf, textVerdict, Written};
 ghost use Rattle.query.specs.Lists.{queryOf};
-ghost use Rattle.text.specs.Composing.{Composed};
+ghost use Rattle.text.specs.Composing.{Answered, Composed};
+use planner::Answer;
 use planner::plan;
 use reader::reading::read;
 use rules::Verdict;
@@ -25,6 +26,36 @@ fn copy(from: &[u8], to: &mut [u8])
     for i in 0..from.len() {
         to[i] = from[i];
     }
+}
+
+// Writes what planning answered for n tables: an X line, or a P line and the joins that stand in the memo's rows.
+fn put_answer(
+    out: &mut [u8],
+    n: u64,
+    answer: Answer,
+    sets: &[u64],
+    estimates: &[u64],
+    costs: &[u64],
+    outers: &[u64],
+    methods: &[u64],
+) -> usize
+    requires { ⌜ answerRoom ≤ length (now out) ⌝ }
+    requires { ⌜ ((i : Input) × Answered i n answer (now sets) (now estimates) (now costs) (now outers) (now methods)) ⌝ }
+    ensures { λ r. ⌜ ((i : Input) → Answered i n answer (now (sets .entry)) (now (estimates .entry)) (now (costs .entry)) (now (outers .entry)) (now (methods .entry)) → Composed (verdict i) i (now (out .entry)) (now (out .exit)) r) ⌝ }
+{
+    if answer.refusal != 0 {
+        return put_refusal(
+            out,
+            0,
+            Verdict {
+                number: answer.refusal,
+                place: answer.place,
+            },
+        );
+    }
+    let joins = put_plan(out, 0, answer.best, answer.pairs);
+    let all = single(n + 1) - 1;
+    put_joins(out, joins, n, all, sets, estimates, costs, outers, methods)
 }
 
 // Plans what was read, in memory of its own, and writes the answer.
@@ -80,23 +111,10 @@ fn plan_read(
         &mut log_inner,
         &mut log_costs,
     );
-    if answer.refusal != 0 {
-        return put_refusal(
-            out,
-            0,
-            Verdict {
-                number: answer.refusal,
-                place: answer.place,
-            },
-        );
-    }
-    let joins = put_plan(out, 0, answer.best, answer.pairs);
-    let n = rows.len() as u64;
-    put_joins(
+    put_answer(
         out,
-        joins,
-        n,
-        single(n + 1) - 1,
+        rows.len() as u64,
+        answer,
         &sets,
         &estimates,
         &costs,
