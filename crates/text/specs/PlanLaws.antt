@@ -4,6 +4,7 @@ use mathlib.Core.List.{List, [], _∷_, _++_, map, List·Memᴰ}
 use Prim.Native.Nat.{ℕ, zero, suc, _+_, _-_, _^_, _≤_, _<_}
 use native.Mathlib.Decide.{decLt}
 use native.Mathlib.Omega.{arith}
+use lib.Pow.{pow-pos}
 use lib.ListN.{length, getD, length-append}
 use Rattle.rules.specs.declared.Verdict.{Verdict}
 use Rattle.rules.specs.Limits.{maxTables, textRows, answerRoom}
@@ -177,10 +178,9 @@ plan-fits best pairs room l₁ l₂ h = omega (arith, plan-room best pairs l₁ 
 pub refusal-fits : (v : Verdict) (room : ℕ) → v .number < 10 ^ 20 → v .place < 10 ^ 20 → answerRoom ≤ room → 0 + length (refusalLine v) ≤ room
 refusal-fits v room l₁ l₂ h = omega (arith, refusal-room v l₁ l₂)
 
--- a 64-bit number has at most 20 digits
-pub twenty-digits : (n : ℕ) → n < 2 ^ 64 → n < 10 ^ 20
-twenty-digits n l = omega arith
-
 -- all tables, as the code finds them
 pub all-tables : (n : ℕ) {s : ℕ} → s ≡ single (n + 1) → s - 1 ≡ full n
 all-tables n {s} e = let k : n + 1 - 1 ≡ n = omega arith in rw (e, k) refl
+
+pub some-tables : (n : ℕ) {s : ℕ} → s ≡ single (n + 1) → 1 ≤ s
+some-tables n e = omega (arith, e, pow-pos (n + 1 - 1))

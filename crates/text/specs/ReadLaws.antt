@@ -1,9 +1,8 @@
 -- From the reading of a text to its answer, and from there to the lent buffer.
 use mathlib.Core.Path.{_≡_, refl, sym, ap, _∙_, subst}
 use mathlib.Core.List.{List}
-use Prim.Native.Nat.{ℕ, _+_, _^_, _≤_, _<_}
+use Prim.Native.Nat.{ℕ, _-_, _^_, _≤_, _<_}
 use native.Mathlib.Decide.{ℕ-discrete}
-use native.Mathlib.Nat.{zero-add}
 use native.Mathlib.Omega.{arith}
 use lib.ListN.{length, take}
 use Rattle.rules.specs.declared.Verdict.{Verdict}
@@ -12,10 +11,13 @@ use Rattle.rules.specs.Lists.{over}
 use Rattle.rules.specs.Refusals.{Input, verdict}
 use Rattle.rules.specs.Reading.{Read, Reading, reading}
 use Rattle.rules.specs.Writing.{refusalLine}
-use Rattle.rules.specs.Text.{inputFor, inputOf, textVerdict, Lined, Answers, Written}
+use Rattle.rules.specs.Text.{textInput, inputFor, inputOf, textVerdict, Lined, Answers, Written}
 use Rattle.rules.specs.laws.Writing.{refusal-room}
 use Rattle.rules.specs.laws.Text.{GoodText, good-none, unread-verdict, unplanned-verdict}
+use Rattle.query.specs.Lists.{queryOf}
 use Rattle.memo.specs.LayoutLaws.{front}
+use Rattle.reader.specs.declared.kinds.Progress.{Progress}
+use Rattle.reader.specs.Records.{readOf}
 use Rattle.writer.specs.Put.{Put}
 use Rattle.text.specs.Composing.{Composed}
 
@@ -40,11 +42,28 @@ good-lined text {bytes} good l = go (ℕ-discrete (verdict (inputOf text) .numbe
     go (yes e) = record { planned = λ _. l .planned e; refused = λ p. absurd (omega (arith, p, good-none (record { good = good; accepted-query = e }))) }
     go (no n) = subst (λ (v : Verdict). Lined v (inputOf text) bytes) (sym (unplanned-verdict text good n)) l
 
-pub read-planned : (text : List ℕ) {v : Verdict} {s : Read} {before after : List ℕ} {r : ℕ} → record { verdict = v; read = s } ≡ reading text → v .number ≡ 0
-    → Composed (verdict (inputFor s)) (inputFor s) before after r → Composed (textVerdict text) (inputOf text) before after r
-read-planned text {v} {s} {before} {after} {r} e z c =
-    let same : s ≡ reading text .read = ap (λ (x : Reading). x .read) e in
-    let d : Composed (verdict (inputOf text)) (inputOf text) before after r = subst (λ (x : Read). Composed (verdict (inputFor x)) (inputFor x) before after r) same c in
+-- the code cuts a column from 0 on
+cut-from : (n : ℕ) → n - 0 ≡ n
+cut-from n = omega arith
+
+-- what the code has planned: the columns, each cut to its records
+abbrev cutInput : Progress → (rows scans left right divisors fixed outer inner result : List ℕ) → Input
+cutInput p rows scans left right divisors fixed outer inner result =
+    textInput
+    (queryOf (take (p .tables - 0) rows) (take (p .tables - 0) scans) (take (p .edges - 0) left) (take (p .edges - 0) right) (take (p .edges - 0) divisors) (take (p .methods - 0) fixed) (take (p .methods - 0) outer) (take (p .methods - 0) inner) (take (p .methods - 0) result))
+    (p .workers) (p .scheme)
+
+pub read-planned : (text : List ℕ) (p : Progress) (rows scans left right divisors fixed outer inner result : List ℕ) {v : Verdict} {before after : List ℕ} {r : ℕ}
+    → record { verdict = v; read = readOf p rows scans left right divisors fixed outer inner result } ≡ reading text → v .number ≡ 0
+    → Composed (verdict (cutInput p rows scans left right divisors fixed outer inner result)) (cutInput p rows scans left right divisors fixed outer inner result) before after r → Composed (textVerdict text) (inputOf text) before after r
+read-planned text p rows scans left right divisors fixed outer inner result {v} {before} {after} {r} e z c =
+    let t = cut-from (p .tables) in
+    let u = cut-from (p .edges) in
+    let m = cut-from (p .methods) in
+    let whole : cutInput p rows scans left right divisors fixed outer inner result ≡ inputFor (readOf p rows scans left right divisors fixed outer inner result)
+        = λ k. textInput (queryOf (take (t k) rows) (take (t k) scans) (take (u k) left) (take (u k) right) (take (u k) divisors) (take (m k) fixed) (take (m k) outer) (take (m k) inner) (take (m k) result)) (p .workers) (p .scheme) in
+    let same : cutInput p rows scans left right divisors fixed outer inner result ≡ inputOf text = whole ∙ ap (λ (x : Reading). inputFor (x .read)) e in
+    let d : Composed (verdict (inputOf text)) (inputOf text) before after r = subst (λ (i : Input). Composed (verdict i) i before after r) same c in
     record { bytes = d .bytes; lined = good-lined text (ap (λ (x : Reading). x .verdict .number) (sym e) ∙ z) (d .lined); put = d .put; short = d .short }
 
 -- ---- the lent buffer
@@ -57,7 +76,7 @@ written-long text c l = record {
   long = λ _. (refl, refl);
 }
 
-pub written-fits : (text : List ℕ) {zeros lines old new : List ℕ} {r : ℕ} → Composed (textVerdict text) (inputOf text) zeros lines r → answerRoom ≤ length zeros → r ≤ length old → new ≡ over (take r lines) old → Written text old new r
+pub written-fits : (text : List ℕ) {zeros lines old new : List ℕ} {r : ℕ} → Composed (textVerdict text) (inputOf text) zeros lines r → answerRoom ≤ length zeros → r ≤ length old → new ≡ over (take (r - 0) lines) old → Written text old new r
 written-fits text {zeros} {lines} {old} {new} {r} c room l w =
     let e : r ≡ length (c .bytes) = omega (arith, c .put .end) in
     let f : take r lines ≡ c .bytes = front (c .bytes) zeros (omega (arith, c .short, room)) e (c .put .written) in
@@ -65,6 +84,6 @@ written-fits text {zeros} {lines} {old} {new} {r} c room l w =
       bytes = c .bytes;
       answer = c .lined;
       short = c .short;
-      fits = λ _. (e, w ∙ ap (λ (x : List ℕ). over x old) f);
+      fits = λ _. (e, w ∙ ap (λ (n : ℕ). over (take n lines) old) (cut-from r) ∙ ap (λ (x : List ℕ). over x old) f);
       long = λ k. absurd (omega (arith, k, l, e));
     }
