@@ -1,7 +1,7 @@
 -- Parts between bytes of a kind, by scans: the first part ends at the first such byte, and the others stand after it.
 use mathlib.Core.Path.{_≡_, refl, sym, _∙_, ap}
 use mathlib.Core.Logic.{_⊎_, inl, inr}
-use mathlib.Core.Bool.{Bool, true, false, cond}
+use mathlib.Core.Bool.{true, false, cond}
 use mathlib.Core.List.{List, [], _∷_}
 use Prim.Native.Nat.{ℕ, zero, suc, _≤_, _<_, _+_, _-_}
 use native.Mathlib.Omega.{arith}
@@ -9,8 +9,8 @@ use native.Mathlib.Numerals.{add-one, sub-one}
 use lib.Dec.{eqb}
 use lib.ListN.{length, take, drop, getD, drop-of-length-le}
 use lib.Seq.{drop-cons}
-use borrow.Author.Tests.{eq-eqb, ne-eqb, eqb-true}
-use Rattle.rules.specs.Lines.{tab, newline, onto, cutAt, butLast, lines, fields, field}
+use borrow.Author.Tests.{eq-eqb, ne-eqb}
+use Rattle.rules.specs.Lines.{tab, onto, cutAt, fields, field}
 use Rattle.rules.specs.laws.Bools.{true-or-false}
 use Rattle.reader.specs.Spans.{span}
 use Rattle.reader.specs.SpanLaws.{rest-is}

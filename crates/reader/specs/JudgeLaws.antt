@@ -1,8 +1,8 @@
 -- A line's verdict and record, as each way out of the judges shows them.
 use mathlib.Core.Path.{_≡_, refl, sym, _∙_, ap}
 use mathlib.Core.Bool.{Bool, true, false, not}
-use mathlib.Core.List.{List, []}
-use Prim.Native.Nat.{ℕ, suc, _≤_, _<_, _+_}
+use mathlib.Core.List.{List}
+use Prim.Native.Nat.{ℕ, suc, _<_, _+_}
 use native.Mathlib.Omega.{arith}
 use lib.ListN.{length, getD}
 use borrow.Author.Tests.{not-true, not-false}
@@ -79,10 +79,12 @@ module _ (p : Progress) (line first : List ℕ) (l : Letter) (j : Judged) (e : f
 
   pub judged-known : (f : Form) → l ≡ Known f → JudgedAs f p line j → Judges p line j
   judged-known f k r =
-      let t : lineForm line ≡ Known f = letter ∙ k in
-      (r .0 ∙ ap (λ (x : Letter). numberAs x p line) (sym t), λ z.
-        let s = r .1 z in
-        record { numbers = f .numbers; form = t ∙ ap (λ (x : Kind). known x (f .numbers)) (sym (s .0)); cells-are = s .1 })
+      let t : lineForm line ≡ Known f = letter ∙ k in (
+        r .0 ∙ ap (λ (x : Letter). numberAs x p line) (sym t),
+        λ z.
+            let s = r .1 z in
+            record { numbers = f .numbers; form = t ∙ ap (λ (x : Kind). known x (f .numbers)) (sym (s .0)); cells-are = s .1 },
+      )
 
 -- a good line is none too many
 pub good-fits : {line cells : List ℕ} {kind : Kind} (p : Progress) (number : ℕ) → number ≡ numberAs (lineForm line) p line → number ≡ 0 → Recorded line kind cells → excess kind (p .tables) (p .methods) (p .edges) ≡ false

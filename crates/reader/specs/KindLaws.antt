@@ -1,15 +1,13 @@
 -- What a line is and whether it is good where it stands, as each way out of the code shows it.
 use mathlib.Core.Path.{_≡_, refl, sym, _∙_, ap}
-use mathlib.Core.Logic.{_⊎_, inl, inr}
-use mathlib.Core.Bool.{Bool, true, false, cond, _&&_, _||_, not}
-use mathlib.Core.List.{List, [], _∷_, map}
-use Prim.Native.Nat.{ℕ, zero, suc, _≤_, _<_, _+_, _-_}
-use native.Mathlib.Decide.{ℕ-discrete}
+use mathlib.Core.Bool.{Bool, true, false, cond, not}
+use mathlib.Core.List.{List, [], _∷_}
+use Prim.Native.Nat.{ℕ, suc, _≤_, _+_, _-_}
 use native.Mathlib.Numerals.{add-one}
 use native.Mathlib.Omega.{arith}
 use lib.Dec.{eqb, ltb, leb}
-use lib.ListN.{length, drop, getD, length-drop}
-use borrow.Author.Tests.{lt-ltb, le-ltb, le-leb, lt-leb, eq-eqb, ne-eqb, eqb-true, eqb-false}
+use lib.ListN.{length, getD}
+use borrow.Author.Tests.{eq-eqb, ne-eqb}
 use Rattle.rules.specs.declared.forms.Kind.{Kind}
 use Rattle.rules.specs.declared.forms.Kind.the-variants.{Table, Method, Edge, Crew}
 use Rattle.rules.specs.declared.forms.Form.{Form}
@@ -17,8 +15,7 @@ use Rattle.rules.specs.declared.forms.Letter.{Letter}
 use Rattle.rules.specs.declared.forms.Letter.the-variants.{Known, Unknown}
 use Rattle.rules.specs.Limits.{maxTables, maxMethods, maxEdgeLines}
 use Rattle.rules.specs.Lines.{fields}
-use Rattle.rules.specs.Reading.{known, letterOf, formOf, stage, allNumbers, numberFields, values, misplaced, excess, lineForm, lineNumberAs}
-use Rattle.rules.specs.laws.Bools.{true-or-false}
+use Rattle.rules.specs.Reading.{known, letterOf, formOf, stage, allNumbers, numberFields, values, misplaced, excess, lineNumberAs}
 
 -- ---- letters
 pub letter-table : (b : ℕ) → b ≡ 84 → known Table 3 ≡ letterOf b

@@ -1,9 +1,8 @@
 -- The lines in a row: what has been read, with what the rest of the text adds to it, is the reading of the text.
 use mathlib.Core.Path.{_≡_, refl, sym, _∙_, ap}
-use mathlib.Core.Logic.{_⊎_, inl, inr}
 use mathlib.Core.Bool.{Bool, true, false, cond}
 use mathlib.Core.List.{List, [], _∷_}
-use Prim.Native.Nat.{ℕ, zero, suc, _≤_, _<_, _+_, _-_}
+use Prim.Native.Nat.{ℕ, _≤_, _<_, _+_, _-_}
 use native.Mathlib.Nat.{le-trans}
 use native.Mathlib.Numerals.{add-one}
 use native.Mathlib.Omega.{arith}
@@ -14,9 +13,9 @@ use borrow.Author.Tests.{eq-eqb, ne-eqb}
 use Rattle.rules.specs.declared.forms.Kind.{Kind}
 use Rattle.rules.specs.declared.forms.Kind.the-variants.{Table, Method, Edge, Crew}
 use Rattle.rules.specs.declared.forms.Letter.{Letter}
-use Rattle.rules.specs.Limits.{maxTables, maxMethods, maxEdgeLines, maxBytes}
+use Rattle.rules.specs.Limits.{maxBytes}
 use Rattle.rules.specs.Lines.{newline, lines}
-use Rattle.rules.specs.Reading.{Read, Reading, nothing, stage, values, lineForm, lineNumber, lineNumberAs, withRecord, withLineAs, withLine, stopped, ended, readFrom, unfit, reading}
+use Rattle.rules.specs.Reading.{Read, stage, values, lineForm, lineNumber, withRecord, withLineAs, withLine, stopped, ended, readFrom, unfit, reading}
 use Rattle.reader.specs.declared.kinds.Progress.{Progress}
 use Rattle.reader.specs.declared.reading.Held.{Held}
 use Rattle.reader.specs.Spans.{span}

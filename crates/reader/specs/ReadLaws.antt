@@ -1,20 +1,18 @@
 -- Lines in a row, by scans, and what each leaves to be read.
 use mathlib.Core.Path.{_≡_, refl, sym, _∙_, ap}
-use mathlib.Core.Logic.{_⊎_, inl, inr}
 use mathlib.Core.Bool.{Bool, true, false, cond, _||_, not}
 use mathlib.Core.List.{List, [], _∷_}
 use Prim.Native.Nat.{ℕ, zero, suc, _≤_, _<_, _+_, _-_}
-use native.Mathlib.Decide.{decLt, ℕ-discrete}
+use native.Mathlib.Decide.{decLt}
 use native.Mathlib.Numerals.{add-one}
 use native.Mathlib.Omega.{arith}
 use lib.Dec.{eqb, ltb}
 use lib.ListN.{length, take, drop, getD, length-drop, drop-of-length-le, List·getD-eq-default}
 use lib.Seq.{getD-drop}
-use borrow.Author.Tests.{lt-ltb, le-ltb, eq-eqb, ne-eqb, ltb-false, eqb-true, not-false}
+use borrow.Author.Tests.{lt-ltb, le-ltb, eq-eqb, ltb-false, eqb-true, not-false}
 use Rattle.rules.specs.Limits.{maxBytes}
 use Rattle.rules.specs.Lines.{newline, cutAt, butLast, lines}
 use Rattle.rules.specs.Reading.{unfit}
-use Rattle.rules.specs.laws.Bools.{true-or-false}
 use Rattle.reader.specs.Spans.{span}
 use Rattle.reader.specs.SpanLaws.{rest-is}
 use Rattle.reader.specs.CutLaws.{cut-next, cut-some}

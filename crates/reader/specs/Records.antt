@@ -2,7 +2,7 @@
 use mathlib.Core.Path.{_≡_}
 use mathlib.Core.List.{List}
 use Prim.Native.Nat.{ℕ, _≤_}
-use lib.ListN.{length, getD, take, drop, replicate}
+use lib.ListN.{length, getD, take, replicate}
 use Rattle.rules.specs.declared.forms.Kind.{Kind}
 use Rattle.rules.specs.declared.forms.Kind.the-variants.{Table}
 use Rattle.rules.specs.Limits.{maxTables, maxMethods, maxEdgeLines}

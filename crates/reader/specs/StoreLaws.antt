@@ -1,8 +1,8 @@
 -- A good line's record at the end of the columns of its kind.
 use mathlib.Core.Path.{_≡_, refl, sym, _∙_, ap}
-use mathlib.Core.Bool.{true, false}
-use mathlib.Core.List.{List, [], _∷_, _++_}
-use Prim.Native.Nat.{ℕ, zero, suc, _≤_, _<_, _+_, _-_}
+use mathlib.Core.Bool.{false}
+use mathlib.Core.List.{List}
+use Prim.Native.Nat.{ℕ, _≤_, _<_, _+_, _-_}
 use native.Mathlib.Numerals.{add-one}
 use native.Mathlib.Omega.{arith}
 use lib.Dec.{leb}
@@ -13,7 +13,7 @@ use Rattle.rules.specs.declared.forms.Kind.{Kind}
 use Rattle.rules.specs.declared.forms.Kind.the-variants.{Table, Method, Edge, Crew}
 use Rattle.rules.specs.Limits.{maxTables, maxMethods, maxEdgeLines}
 use Rattle.rules.specs.Answers.{Spared}
-use Rattle.rules.specs.Reading.{Read, stage, excess, push, withRecord}
+use Rattle.rules.specs.Reading.{stage, excess, push, withRecord}
 use Rattle.reader.specs.declared.kinds.Progress.{Progress}
 use Rattle.reader.specs.Records.{Room, Within, Spare, readOf}
 

@@ -1,19 +1,19 @@
 -- The numbers of a line read into cells one by one.
 use mathlib.Core.Path.{_≡_, refl, sym, _∙_, ap}
 use mathlib.Core.Logic.{_⊎_, inl, inr}
-use mathlib.Core.Bool.{Bool, true, false, cond, _&&_}
+use mathlib.Core.Bool.{true, false, _&&_}
 use mathlib.Core.List.{List, [], _∷_, map}
 use Prim.Native.Nat.{ℕ, zero, suc, _≤_, _<_, _+_, _-_}
 use native.Mathlib.Decide.{decLt, ℕ-discrete}
 use native.Mathlib.Numerals.{add-one}
 use native.Mathlib.Omega.{arith}
-use lib.ListN.{length, drop, getD, set, replicate, length-drop, length-set, drop-of-length-le, List·getD-map, List·getD-eq-default, getD-replicate}
+use lib.ListN.{length, drop, getD, set, replicate, length-drop, length-set, drop-of-length-le, List·getD-map, List·getD-eq-default}
 use lib.Seq.{drop-cons, getD-drop, getD-set-same, getD-set-other}
 use Rattle.rules.specs.declared.forms.Number.{Number}
 use Rattle.rules.specs.declared.forms.Number.the-variants.{Value, Bad}
 use Rattle.rules.specs.Lines.{fields, field, valueFrom, valueOf, isNumber, numberOf}
 use Rattle.rules.specs.Reading.{allNumbers, numberFields, values}
-use Rattle.rules.specs.laws.Bools.{true-or-false, not-both}
+use Rattle.rules.specs.laws.Bools.{true-or-false}
 
 -- ---- a field as a number
 module _ (s : List ℕ) (r : Number) (e : r ≡ numberOf s) where

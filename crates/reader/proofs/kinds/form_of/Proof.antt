@@ -3,23 +3,16 @@ use Rattle.reader.specs.KindLaws.{form-other, form-letter}
 use borrow.Author.Needs.{needs}
 use Rattle.reader.proofs.kinds.form_of.Statement.{statement}
 use Rattle.reader.proofs.kinds.form_of.Tie as tie
-use Rattle.reader.proofs.kinds.form_of.Reads as reads
-use Rattle.reader.proofs.kinds.form_of.Lts as lts
-use Rattle.reader.proofs.kinds.letter_of.Reads as letter-of-reads
 
--- src/kinds.rt:75:9
 returns : tie.Need-returns
 returns c = form-other (c .before .before .args .first .now) (c .if1 .taken)
 
--- src/kinds.rt:77:15
 shared-slice-read-letter-of : tie.Need-shared-slice-read-letter-of
 shared-slice-read-letter-of c = search needs
 
--- src/kinds.rt:77:5
 letter-of-requires : tie.Need-letter-of-requires
 letter-of-requires c κs = search needs
 
--- src/kinds.rt:71:1
 returns-2 : tie.Need-returns-2
 returns-2 c = c .letter-of .ensures ∙ form-letter (c .before .before .before .before .args .first .now) (c .before .before .if1 .left)
 

@@ -2,38 +2,28 @@ use Rattle.reader.specs.KindLaws.{table-excess, method-excess, edge-exce
 use borrow.Author.Needs.{needs}
 use Rattle.reader.proofs.kinds.is_excess.Statement.{statement}
 use Rattle.reader.proofs.kinds.is_excess.Tie as tie
-use Rattle.reader.proofs.kinds.is_excess.Reads as reads
-use Rattle.reader.proofs.kinds.is_excess.Lts as lts
 
--- src/kinds.rt:139:44
 enum-told : tie.Need-enum-told
 enum-told c = search needs
 
--- src/kinds.rt:140:46
 enum-told-2 : tie.Need-enum-told-2
 enum-told-2 c = search needs
 
--- src/kinds.rt:141:42
 enum-told-3 : tie.Need-enum-told-3
 enum-told-3 c = search needs
 
--- src/kinds.rt:142:23
 enum-told-4 : tie.Need-enum-told-4
 enum-told-4 c = search needs
 
--- src/kinds.rt:135:1
 returns : tie.Need-returns
 returns c = table-excess _ _ _ _ (c .enum-told .given .1)
 
--- src/kinds.rt:135:1
 returns-2 : tie.Need-returns-2
 returns-2 c = method-excess _ _ _ _ (c .enum-told2 .given .1)
 
--- src/kinds.rt:135:1
 returns-3 : tie.Need-returns-3
 returns-3 c = edge-excess _ _ _ _ (c .enum-told3 .given .1)
 
--- src/kinds.rt:135:1
 returns-4 : tie.Need-returns-4
 returns-4 c = crew-excess _ _ _ _ (c .enum-told4 .given .1)
 

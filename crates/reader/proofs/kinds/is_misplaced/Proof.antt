@@ -2,51 +2,37 @@ use Rattle.reader.specs.KindLaws.{next-table, other-table, method-place,
 use borrow.Author.Needs.{needs}
 use Rattle.reader.proofs.kinds.is_misplaced.Statement.{statement}
 use Rattle.reader.proofs.kinds.is_misplaced.Tie as tie
-use Rattle.reader.proofs.kinds.is_misplaced.Reads as reads
-use Rattle.reader.proofs.kinds.is_misplaced.Lts as lts
-use Rattle.reader.proofs.kinds.stage_of.Reads as stage-of-reads
 
--- src/kinds.rt:121:9
 stage-of-requires : tie.Need-stage-of-requires
 stage-of-requires c κs = search needs
 
--- src/kinds.rt:123:36
 enum-told : tie.Need-enum-told
 enum-told c = search needs
 
--- src/kinds.rt:123:36
 add-if1 : tie.Need-add-if1
 add-if1 c = search needs
 
--- src/kinds.rt:128:25
 enum-told-2 : tie.Need-enum-told-2
 enum-told-2 c = search needs
 
--- src/kinds.rt:129:23
 enum-told-3 : tie.Need-enum-told-3
 enum-told-3 c = search needs
 
--- src/kinds.rt:130:23
 enum-told-4 : tie.Need-enum-told-4
 enum-told-4 c = search needs
 
--- src/kinds.rt:117:1
 returns : tie.Need-returns
 returns c = next-table _ (c .before .before .before .before .args .latest) _ _ _ (c .before .before .before .stage-of .ensures) (c .before .enum-told .given .1) (c .if1 .taken)
 
--- src/kinds.rt:117:1
 returns-2 : tie.Need-returns-2
 returns-2 c = other-table _ (c .before .before .before .before .args .latest) _ _ _ (c .before .before .before .stage-of .ensures) (c .before .enum-told .given .1) (c .if1 .left)
 
--- src/kinds.rt:117:1
 returns-3 : tie.Need-returns-3
 returns-3 c = method-place _ (c .before .before .before .args .latest) _ _ _ (c .before .before .stage-of .ensures) (c .enum-told2 .given .1)
 
--- src/kinds.rt:117:1
 returns-4 : tie.Need-returns-4
 returns-4 c = edge-place _ (c .before .before .before .args .latest) _ _ _ (c .before .before .stage-of .ensures) (c .enum-told3 .given .1)
 
--- src/kinds.rt:117:1
 returns-5 : tie.Need-returns-5
 returns-5 c = crew-place _ (c .before .before .before .args .latest) _ _ _ (c .before .before .stage-of .ensures) (c .enum-told4 .given .1)
 

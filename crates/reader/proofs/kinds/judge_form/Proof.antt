@@ -2,71 +2,49 @@ use Rattle.reader.specs.JudgeLaws.{enough, judged-count, judged-bad, jud
 use borrow.Author.Needs.{needs}
 use Rattle.reader.proofs.kinds.judge_form.Statement.{statement}
 use Rattle.reader.proofs.kinds.judge_form.Tie as tie
-use Rattle.reader.proofs.kinds.judge_form.Reads as reads
-use Rattle.reader.proofs.kinds.judge_form.Lts as lts
-use Rattle.reader.proofs.kinds.bad.Reads as bad-reads
-use Rattle.reader.proofs.kinds.is_excess.Reads as is-excess-reads
-use Rattle.reader.proofs.kinds.is_misplaced.Reads as is-misplaced-reads
-use Rattle.reader.proofs.kinds.read_values.Reads as read-values-reads
-use Rattle.reader.proofs.lines.count_fields.Reads as count-fields-reads
 
--- src/kinds.rt:165:8
 count-fields-requires : tie.Need-count-fields-requires
 count-fields-requires c κs = search needs
 
--- src/kinds.rt:165:30
 add-if1 : tie.Need-add-if1
 add-if1 c = search needs
 
--- src/kinds.rt:166:9
 bad-requires : tie.Need-bad-requires
 bad-requires c κs = search needs
 
--- src/kinds.rt:166:9
 returns : tie.Need-returns
 returns c = judged-count (c .before .before .before .before .args .form) (c .before .before .before .before .args .progress) (c .before .before .before .before .args .line .now) _ (c .before .before .count-fields .ensures) _ (c .before .if1 .taken) (c .bad .ensures)
 
--- src/kinds.rt:168:9
 read-values-requires : tie.Need-read-values-requires
 read-values-requires c κs = (enough (c .before .before .before .args .form) (c .before .before .before .args .progress) (c .before .before .before .args .line .now) _ (c .before .count-fields .ensures) (c .if1 .left), c .before .before .before .pre .1)
 
--- src/kinds.rt:170:9
 bad-requires-2 : tie.Need-bad-requires-2
 bad-requires-2 c κs = search needs
 
--- src/kinds.rt:170:9
 returns-2 : tie.Need-returns-2
 returns-2 c = judged-bad (c .before .before .before .before .before .before .before .args .form) (c .before .before .before .before .before .before .before .args .progress) (c .before .before .before .before .before .before .before .args .line .now) _ (c .before .before .before .before .before .count-fields .ensures) (c .before .before .before .before .if1 .left) (c .before .before .before .read-values .result) (c .before .before .before .read-values .ensures .0) _ (c .before .if2 .taken) (c .bad2 .ensures)
 
--- src/kinds.rt:173:61
 array-read-is-misplaced : tie.Need-array-read-is-misplaced
 array-read-is-misplaced c = search needs
 
--- src/kinds.rt:173:8
 is-misplaced-requires : tie.Need-is-misplaced-requires
 is-misplaced-requires c κs = search needs
 
--- src/kinds.rt:174:9
 bad-requires-3 : tie.Need-bad-requires-3
 bad-requires-3 c κs = search needs
 
--- src/kinds.rt:174:9
 returns-3 : tie.Need-returns-3
 returns-3 c = judged-misplaced (c .before .before .before .before .before .before .before .before .before .before .args .form) (c .before .before .before .before .before .before .before .before .before .before .args .progress) (c .before .before .before .before .before .before .before .before .before .before .args .line .now) _ (c .before .before .before .before .before .before .before .before .count-fields .ensures) (c .before .before .before .before .before .before .before .if1 .left) (c .before .before .before .before .before .before .read-values .result) (c .before .before .before .before .before .before .read-values .ensures .0) (c .before .before .before .before .if2 .left) (c .before .before .before .before .before .before .read-values .ensures .1) _ (c .before .before .is-misplaced .ensures) _ (c .before .if3 .taken) (c .bad3 .ensures)
 
--- src/kinds.rt:176:8
 is-excess-requires : tie.Need-is-excess-requires
 is-excess-requires c κs = search needs
 
--- src/kinds.rt:177:9
 bad-requires-4 : tie.Need-bad-requires-4
 bad-requires-4 c κs = search needs
 
--- src/kinds.rt:177:9
 returns-4 : tie.Need-returns-4
 returns-4 c = judged-excess (c .before .before .before .before .before .before .before .before .before .before .before .before .args .form) (c .before .before .before .before .before .before .before .before .before .before .before .before .args .progress) (c .before .before .before .before .before .before .before .before .before .before .before .before .args .line .now) _ (c .before .before .before .before .before .before .before .before .before .before .count-fields .ensures) (c .before .before .before .before .before .before .before .before .before .if1 .left) (c .before .before .before .before .before .before .before .before .read-values .result) (c .before .before .before .before .before .before .before .before .read-values .ensures .0) (c .before .before .before .before .before .before .if2 .left) (c .before .before .before .before .before .before .before .before .read-values .ensures .1) _ (c .before .before .before .before .is-misplaced .ensures) (c .before .before .before .if3 .left) _ (c .before .before .is-excess .ensures) _ (c .before .if4 .taken) (c .bad4 .ensures)
 
--- src/kinds.rt:158:1
 returns-5 : tie.Need-returns-5
 returns-5 c = judged-good (c .before .before .before .before .before .before .before .before .before .before .before .args .form) (c .before .before .before .before .before .before .before .before .before .before .before .args .progress) (c .before .before .before .before .before .before .before .before .before .before .before .args .line .now) _ (c .before .before .before .before .before .before .before .before .before .count-fields .ensures) (c .before .before .before .before .before .before .before .before .if1 .left) (c .before .before .before .before .before .before .before .read-values .result) (c .before .before .before .before .before .before .before .read-values .ensures .0) (c .before .before .before .before .before .if2 .left) (c .before .before .before .before .before .before .before .read-values .ensures .1) _ (c .before .before .before .is-misplaced .ensures) (c .before .before .if3 .left) _ (c .before .is-excess .ensures) (c .if4 .left)
 

@@ -1,26 +1,19 @@
 use Rattle.reader.specs.KindLaws.{letter-table, letter-method, letter-edge, letter-crew, letter-none}
 use Rattle.reader.proofs.kinds.letter_of.Statement.{statement}
 use Rattle.reader.proofs.kinds.letter_of.Tie as tie
-use Rattle.reader.proofs.kinds.letter_of.Reads as reads
-use Rattle.reader.proofs.kinds.letter_of.Lts as lts
 
--- src/kinds.rt:46:1
 returns : tie.Need-returns
 returns c = letter-table _ (c .match .keys1)
 
--- src/kinds.rt:46:1
 returns-2 : tie.Need-returns-2
 returns-2 c = letter-method _ (c .match .keys2)
 
--- src/kinds.rt:46:1
 returns-3 : tie.Need-returns-3
 returns-3 c = letter-edge _ (c .match .keys3)
 
--- src/kinds.rt:46:1
 returns-4 : tie.Need-returns-4
 returns-4 c = letter-crew _ (c .match .keys4)
 
--- src/kinds.rt:46:1
 returns-5 : tie.Need-returns-5
 returns-5 c = let r = c .match .rest in letter-none _ (r .0 .0 .0 .1) (r .0 .0 .1) (r .0 .1) (r .1)
 

@@ -1,17 +1,12 @@
-use Prim.Native.Nat.{_≤_, _<_, _-_}
-use mathlib.Core.Path.{_≡_, refl, sym, _∙_, ap}
+use Prim.Native.Nat.{_≤_, _-_}
+use mathlib.Core.Path.{refl, _∙_, ap}
 use native.Mathlib.Omega.{arith}
-use lib.ListN.{length}
 use Rattle.rules.specs.Lines.{numberOf}
 use Rattle.rules.specs.laws.Bools.{not-both}
 use Rattle.reader.specs.ValueLaws.{Taken, taken-0, taken-bad, taken-next, taken-all, taken-values}
 use borrow.Author.Needs.{needs}
 use Rattle.reader.proofs.kinds.read_values.Statement.{statement}
 use Rattle.reader.proofs.kinds.read_values.Tie as tie
-use Rattle.reader.proofs.kinds.read_values.Reads as reads
-use Rattle.reader.proofs.kinds.read_values.Lts as lts
-use Rattle.reader.proofs.lines.field_of.Reads as field-of-reads
-use Rattle.reader.proofs.numbers.read_number.Reads as read-number-reads
 
 abbrev Inv-loop : tie.InvT-loop
 Inv-loop line count cells₀ k₀ cells k = (k ≤ count) × Taken line k cells
@@ -19,55 +14,42 @@ Inv-loop line count cells₀ k₀ cells k = (k ≤ count) × Taken line k cells
 abbrev μ-loop : tie.MeasureT-loop
 μ-loop line count cells₀ k₀ cells k = count - k
 
--- src/kinds.rt:88:5
 loop-holds : tie.Need-loop-holds Inv-loop μ-loop
 loop-holds c = (search needs, taken-0 _)
 
--- src/kinds.rt:89:42
 add-field-of : tie.Need-add-field-of Inv-loop μ-loop
 add-field-of c = search needs
 
--- src/kinds.rt:89:27
 field-of-requires : tie.Need-field-of-requires Inv-loop μ-loop
 field-of-requires c κs = search needs
 
--- src/kinds.rt:89:15
 read-number-requires : tie.Need-read-number-requires Inv-loop μ-loop
 read-number-requires c κs = search needs
 
--- src/kinds.rt:90:27
 enum-known-value : tie.Need-enum-known-value Inv-loop μ-loop
 enum-known-value c = search needs
 
--- src/kinds.rt:90:37
 mul-cells : tie.Need-mul-cells Inv-loop μ-loop
 mul-cells c = search needs
 
--- src/kinds.rt:90:37
 array-write-cells : tie.Need-array-write-cells Inv-loop μ-loop
 array-write-cells c = omega (arith, c .before .before .before .before .before .before .loop .inv .1 .room, c .before .before .before .before .before .loop-test .taken, c .before .before .before .before .before .before .before .before .pre .1)
 
--- src/kinds.rt:93:24
 enum-told : tie.Need-enum-told Inv-loop μ-loop
 enum-told c = search needs
 
--- src/kinds.rt:91:28
 returns : tie.Need-returns Inv-loop μ-loop
 returns c = (taken-bad (c .before .before .before .before .before .loop .inv .1) _ (c .before .before .before .before .before .before .before .pre .0) _ (c .before .before .before .before .loop-test .taken) (c .before .before .read-number .ensures ∙ ap numberOf (c .before .before .before .field-of .ensures)) (c .enum-told .given .1), λ e. absurd (not-both _ e refl))
 
--- src/kinds.rt:96:9
 add-k : tie.Need-add-k Inv-loop μ-loop
 add-k c = search needs
 
--- src/kinds.rt:88:5
 loop-less : tie.Need-loop-less Inv-loop μ-loop
 loop-less c = search needs
 
--- src/kinds.rt:88:5
 loop-again : tie.Need-loop-again Inv-loop μ-loop
 loop-again c = (search needs, taken-next (c .before .before .before .before .before .before .loop .inv .1) _ (c .before .before .before .before .before .before .before .before .pre .0) _ _ (c .before .before .before .before .before .before .before .before .pre .1) (c .before .before .before .before .before .loop-test .taken) (c .before .before .before .read-number .ensures ∙ ap numberOf (c .before .before .before .before .field-of .ensures)) (c .before .value .given .1))
 
--- src/kinds.rt:81:1
 returns-2 : tie.Need-returns-2 Inv-loop μ-loop
 returns-2 c = (taken-all (c .before .loop .inv .1) _ (c .before .before .before .pre .0) (c .loop-test .left), λ _. taken-values (c .before .loop .inv .1) _ (c .before .before .before .pre .0) (c .loop-test .left) (c .before .loop .inv .0))
 

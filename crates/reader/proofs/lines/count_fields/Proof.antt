@@ -5,8 +5,6 @@ use Rattle.reader.specs.CutLaws.{Counted, counted-0, counted-next, count
 use borrow.Author.Needs.{needs}
 use Rattle.reader.proofs.lines.count_fields.Statement.{statement}
 use Rattle.reader.proofs.lines.count_fields.Tie as tie
-use Rattle.reader.proofs.lines.count_fields.Reads as reads
-use Rattle.reader.proofs.lines.count_fields.Lts as lts
 
 abbrev Inv-loop : tie.InvT-loop
 Inv-loop line count₀ i₀ count i = (i ≤ length line) × ((count ≤ i + 1) × Counted line i count)
@@ -14,31 +12,24 @@ Inv-loop line count₀ i₀ count i = (i ≤ length line) × ((count ≤ i + 1) 
 abbrev μ-loop : tie.MeasureT-loop
 μ-loop line count₀ i₀ count i = length line - i
 
--- src/lines.rt:48:5
 loop-holds : tie.Need-loop-holds Inv-loop μ-loop
 loop-holds c = (search needs, (search needs, counted-0 _))
 
--- src/lines.rt:49:12
 shared-slice-read-if1 : tie.Need-shared-slice-read-if1 Inv-loop μ-loop
 shared-slice-read-if1 c = search needs
 
--- src/lines.rt:50:13
 add-count : tie.Need-add-count Inv-loop μ-loop
 add-count c = search needs
 
--- src/lines.rt:52:9
 add-i : tie.Need-add-i Inv-loop μ-loop
 add-i c = search needs
 
--- src/lines.rt:48:5
 loop-less : tie.Need-loop-less Inv-loop μ-loop
 loop-less c = search needs
 
--- src/lines.rt:48:5
 loop-again : tie.Need-loop-again Inv-loop μ-loop
 loop-again c = (search needs, counted-next _ _ (c .before .before .before .loop .count) _ (c .before .before .loop-test .taken) (c .before .before .before .loop .inv .1 .0) (c .before .before .before .loop .inv .1 .1) (⊎-elim (λ w. inl (w .0 .taken, w .1)) (λ w. inr (w .0 .left, w .1)) (c .if1 .came)))
 
--- src/lines.rt:43:1
 returns : tie.Need-returns Inv-loop μ-loop
 returns c = counted-end _ _ _ (c .loop-test .left) (c .before .loop .inv .1 .1)
 

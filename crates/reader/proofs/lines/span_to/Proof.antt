@@ -4,8 +4,6 @@ use Rattle.reader.specs.SpanLaws.{Passed, passed-0, passed-suc, passed-f
 use borrow.Author.Needs.{needs}
 use Rattle.reader.proofs.lines.span_to.Statement.{statement}
 use Rattle.reader.proofs.lines.span_to.Tie as tie
-use Rattle.reader.proofs.lines.span_to.Reads as reads
-use Rattle.reader.proofs.lines.span_to.Lts as lts
 
 abbrev Inv-loop : tie.InvT-loop
 Inv-loop bytes by i₀ i = (i ≤ length bytes) × Passed by bytes i
@@ -13,31 +11,24 @@ Inv-loop bytes by i₀ i = (i ≤ length bytes) × Passed by bytes i
 abbrev μ-loop : tie.MeasureT-loop
 μ-loop bytes by i₀ i = length bytes - i
 
--- src/lines.rt:15:5
 loop-holds : tie.Need-loop-holds Inv-loop μ-loop
 loop-holds c = (search needs, passed-0 _ _)
 
--- src/lines.rt:16:12
 shared-slice-read-if1 : tie.Need-shared-slice-read-if1 Inv-loop μ-loop
 shared-slice-read-if1 c = search needs
 
--- src/lines.rt:17:13
 returns : tie.Need-returns Inv-loop μ-loop
 returns c = (passed-found _ _ _ (c .before .before .loop-test .taken) (c .before .before .before .loop .inv .1) (c .if1 .taken), search needs)
 
--- src/lines.rt:19:9
 add-i : tie.Need-add-i Inv-loop μ-loop
 add-i c = search needs
 
--- src/lines.rt:15:5
 loop-less : tie.Need-loop-less Inv-loop μ-loop
 loop-less c = search needs
 
--- src/lines.rt:15:5
 loop-again : tie.Need-loop-again Inv-loop μ-loop
 loop-again c = (search needs, passed-suc _ _ _ (c .before .before .loop-test .taken) (c .before .before .before .loop .inv .1) (c .if1 .left))
 
--- src/lines.rt:11:1
 returns-2 : tie.Need-returns-2 Inv-loop μ-loop
 returns-2 c = (passed-end _ _ _ (c .loop-test .left) (c .before .loop .inv .1), search needs)
 

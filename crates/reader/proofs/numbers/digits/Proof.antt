@@ -1,4 +1,4 @@
-use Prim.Native.Nat.{ℕ, _≤_, _<_, _-_, _^_}
+use Prim.Native.Nat.{_≤_, _<_, _-_, _^_}
 use mathlib.Core.Path.{_≡_, sym, _∙_}
 use native.Mathlib.Omega.{arith}
 use lib.ListN.{length, drop}
@@ -6,8 +6,6 @@ use Rattle.reader.specs.NumberLaws.{digitsFrom, digits-low, digits-high,
 use borrow.Author.Needs.{needs}
 use Rattle.reader.proofs.numbers.digits.Statement.{statement}
 use Rattle.reader.proofs.numbers.digits.Tie as tie
-use Rattle.reader.proofs.numbers.digits.Reads as reads
-use Rattle.reader.proofs.numbers.digits.Lts as lts
 
 abbrev Inv-loop : tie.InvT-loop
 Inv-loop s value₀ i₀ value i = (i ≤ length s) × ((value < 10 ^ i) × (digitsFrom 0 s ≡ digitsFrom value (drop i s)))
@@ -15,51 +13,39 @@ Inv-loop s value₀ i₀ value i = (i ≤ length s) × ((value < 10 ^ i) × (dig
 abbrev μ-loop : tie.MeasureT-loop
 μ-loop s value₀ i₀ value i = length s - i
 
--- src/numbers.rt:20:5
 loop-holds : tie.Need-loop-holds Inv-loop μ-loop
 loop-holds c = search needs
 
--- src/numbers.rt:21:17
 shared-slice-read-b : tie.Need-shared-slice-read-b Inv-loop μ-loop
 shared-slice-read-b c = search needs
 
--- src/numbers.rt:23:13
 returns : tie.Need-returns Inv-loop μ-loop
 returns c = sym (c .before .before .before .loop .inv .1 .1 ∙ digits-low _ _ _ (c .before .before .loop-test .taken) (c .if1 .taken))
 
--- src/numbers.rt:25:12
 add-if2 : tie.Need-add-if2 Inv-loop μ-loop
 add-if2 c = search needs
 
--- src/numbers.rt:26:13
 returns-2 : tie.Need-returns-2 Inv-loop μ-loop
 returns-2 c = sym (c .before .before .before .before .loop .inv .1 .1 ∙ digits-high _ _ _ (c .before .before .before .loop-test .taken) (c .if2 .taken))
 
--- src/numbers.rt:28:17
 mul-value : tie.Need-mul-value Inv-loop μ-loop
 mul-value c = omega (arith, power-room (c .before .before .before .before .loop .value) (c .before .before .before .before .loop .i) _ (c .before .before .before .loop-test .taken) (c .before .before .before .before .before .pre) (c .before .before .before .before .loop .inv .1 .0))
 
--- src/numbers.rt:28:30
 cast-value : tie.Need-cast-value Inv-loop μ-loop
 cast-value c = search needs
 
--- src/numbers.rt:28:17
 add-value : tie.Need-add-value Inv-loop μ-loop
 add-value c = omega (arith, power-room (c .before .before .before .before .loop .value) (c .before .before .before .before .loop .i) _ (c .before .before .before .loop-test .taken) (c .before .before .before .before .before .pre) (c .before .before .before .before .loop .inv .1 .0), c .if2 .left)
 
--- src/numbers.rt:29:9
 add-i : tie.Need-add-i Inv-loop μ-loop
 add-i c = search needs
 
--- src/numbers.rt:20:5
 loop-less : tie.Need-loop-less Inv-loop μ-loop
 loop-less c = search needs
 
--- src/numbers.rt:20:5
 loop-again : tie.Need-loop-again Inv-loop μ-loop
 loop-again c = (search needs, (power-next _ _ _ (c .before .before .before .before .loop .inv .1 .0) (c .if2 .left), c .before .before .before .before .loop .inv .1 .1 ∙ digits-next _ _ _ (c .before .before .before .loop-test .taken) (c .before .if1 .left) (c .if2 .left)))
 
--- src/numbers.rt:14:1
 returns-3 : tie.Need-returns-3 Inv-loop μ-loop
 returns-3 c = sym (c .before .loop .inv .1 .1 ∙ digits-end _ _ _ (c .loop-test .left))
 

@@ -3,48 +3,34 @@ use Rattle.reader.specs.NumberLaws.{number-empty, number-long, number-le
 use borrow.Author.Needs.{needs}
 use Rattle.reader.proofs.numbers.read_number.Statement.{statement}
 use Rattle.reader.proofs.numbers.read_number.Tie as tie
-use Rattle.reader.proofs.numbers.read_number.Reads as reads
-use Rattle.reader.proofs.numbers.read_number.Lts as lts
-use Rattle.reader.proofs.numbers.digits.Reads as digits-reads
-use Rattle.reader.proofs.numbers.zero_led.Reads as zero-led-reads
 
--- src/numbers.rt:45:9
 returns : tie.Need-returns
 returns c = number-empty (c .before .before .args .s .now) (c .if1 .taken)
 
--- src/numbers.rt:48:9
 returns-2 : tie.Need-returns-2
 returns-2 c = number-long (c .before .before .before .args .s .now) (c .before .if1 .left) (c .if2 .taken)
 
--- src/numbers.rt:50:8
 zero-led-requires : tie.Need-zero-led-requires
 zero-led-requires c κs = search needs
 
--- src/numbers.rt:51:9
 returns-3 : tie.Need-returns-3
 returns-3 c = number-led (c .before .before .before .before .before .args .s .now) (c .before .before .before .if1 .left) (c .before .before .if2 .left) (sym (c .before .zero-led .ensures) ∙ c .if3 .taken)
 
--- src/numbers.rt:53:11
 digits-requires : tie.Need-digits-requires
 digits-requires c κs = search needs
 
--- src/numbers.rt:54:23
 enum-known-value : tie.Need-enum-known-value
 enum-known-value c = search needs
 
--- src/numbers.rt:59:24
 enum-told : tie.Need-enum-told
 enum-told c = search needs
 
--- src/numbers.rt:41:1
 returns-4 : tie.Need-returns-4
 returns-4 c = number-good (c .before .before .before .before .before .before .before .before .before .before .args .s .now) (c .before .before .before .before .before .before .before .before .if1 .left) (c .before .before .before .before .before .before .before .if2 .left) (sym (c .before .before .before .before .before .before .zero-led .ensures) ∙ c .before .before .before .before .before .if3 .left) _ (c .before .before .before .before .digits .ensures) _ (c .before .before .value .given .1) (c .if4 .taken)
 
--- src/numbers.rt:41:1
 returns-5 : tie.Need-returns-5
 returns-5 c = number-over (c .before .before .before .before .before .before .before .before .before .before .args .s .now) (c .before .before .before .before .before .before .before .before .if1 .left) (c .before .before .before .before .before .before .before .if2 .left) (sym (c .before .before .before .before .before .before .zero-led .ensures) ∙ c .before .before .before .before .before .if3 .left) _ (c .before .before .before .before .digits .ensures) _ (c .before .before .value .given .1) (c .if4 .left)
 
--- src/numbers.rt:41:1
 returns-6 : tie.Need-returns-6
 returns-6 c = number-bad (c .before .before .before .before .before .before .before .before .args .s .now) (c .before .before .before .before .before .before .if1 .left) (c .before .before .before .before .before .if2 .left) (sym (c .before .before .before .before .zero-led .ensures) ∙ c .before .before .before .if3 .left) _ (c .before .before .digits .ensures) (c .enum-told .given .1)
 

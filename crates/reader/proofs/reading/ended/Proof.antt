@@ -2,28 +2,19 @@ use Rattle.reader.specs.LoopLaws.{ended-crew, ended-other}
 use borrow.Author.Needs.{needs}
 use Rattle.reader.proofs.reading.ended.Statement.{statement}
 use Rattle.reader.proofs.reading.ended.Tie as tie
-use Rattle.reader.proofs.reading.ended.Reads as reads
-use Rattle.reader.proofs.reading.ended.Lts as lts
-use Rattle.reader.proofs.kinds.stage_of.Reads as stage-of-reads
-use Rattle.reader.proofs.reading.stopped.Reads as stopped-reads
 
--- src/reading.rt:58:27
 stage-of-requires : tie.Need-stage-of-requires
 stage-of-requires c κs = search needs
 
--- src/reading.rt:59:9
 stopped-requires : tie.Need-stopped-requires
 stopped-requires c κs = search needs
 
--- src/reading.rt:59:9
 returns : tie.Need-returns
 returns c = ended-crew (c .before .before .before .before .args .place) (c .before .before .before .before .args .progress) _ _ (c .before .before .before .stage-of .ensures) (c .before .if1 .taken) (c .stopped .ensures)
 
--- src/reading.rt:61:5
 stopped-requires-2 : tie.Need-stopped-requires-2
 stopped-requires-2 c κs = search needs
 
--- src/reading.rt:55:1
 returns-2 : tie.Need-returns-2
 returns-2 c = ended-other (c .before .before .before .before .args .place) (c .before .before .before .before .args .progress) _ _ (c .before .before .before .stage-of .ensures) (c .before .if1 .left) (c .stopped2 .ensures)
 

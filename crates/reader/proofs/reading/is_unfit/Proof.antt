@@ -2,26 +2,19 @@ use Rattle.reader.specs.ReadLaws.{unfit-long, fit-empty, unfit-end}
 use borrow.Author.Needs.{needs}
 use Rattle.reader.proofs.reading.is_unfit.Statement.{statement}
 use Rattle.reader.proofs.reading.is_unfit.Tie as tie
-use Rattle.reader.proofs.reading.is_unfit.Reads as reads
-use Rattle.reader.proofs.reading.is_unfit.Lts as lts
 
--- src/reading.rt:54:9
 returns : tie.Need-returns
 returns c = unfit-long (c .before .args .text .now) (c .if1 .taken)
 
--- src/reading.rt:57:9
 returns-2 : tie.Need-returns-2
 returns-2 c = fit-empty (c .before .before .args .text .now) (c .before .if1 .left) (c .if2 .taken)
 
--- src/reading.rt:59:10
 sub-result : tie.Need-sub-result
 sub-result c = search needs
 
--- src/reading.rt:59:5
 shared-slice-read-result : tie.Need-shared-slice-read-result
 shared-slice-read-result c = search needs
 
--- src/reading.rt:50:1
 returns-3 : tie.Need-returns-3
 returns-3 c = unfit-end (c .before .before .before .args .text .now) (c .before .before .if1 .left) (c .before .if2 .left)
 

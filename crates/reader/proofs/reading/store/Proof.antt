@@ -3,116 +3,84 @@ use Rattle.reader.specs.StoreLaws.{table-fits, method-fits, edge-fits, t
 use borrow.Author.Needs.{needs}
 use Rattle.reader.proofs.reading.store.Statement.{statement}
 use Rattle.reader.proofs.reading.store.Tie as tie
-use Rattle.reader.proofs.reading.store.Reads as reads
-use Rattle.reader.proofs.reading.store.Lts as lts
-use Rattle.reader.proofs.kinds.stage_of.Reads as stage-of-reads
-use Rattle.reader.proofs.reading.store_edge.Reads as store-edge-reads
-use Rattle.reader.proofs.reading.store_method.Reads as store-method-reads
-use Rattle.reader.proofs.reading.store_table.Reads as store-table-reads
 
--- src/reading.rt:124:5
 stage-of-requires : tie.Need-stage-of-requires
 stage-of-requires c κs = search needs
 
--- src/reading.rt:127:17
 enum-told : tie.Need-enum-told
 enum-told c = search needs
 
--- src/reading.rt:128:13
 store-table-requires : tie.Need-store-table-requires
 store-table-requires c κs = table-fits (c .before .before .before .before .before .before .before .before .before .before .before .before .before .before .before .pre .0) (c .before .before .before .before .before .before .before .before .before .before .before .before .before .before .before .pre .1 .0) [] _ (c .before .before .before .before .before .before .before .before .before .before .before .before .before .before .before .pre .1 .1) (c .before .before .enum-told .given .1)
 
--- src/reading.rt:129:27
 add-next : tie.Need-add-next
 add-next c = search needs
 
--- src/reading.rt:132:17
 enum-told-2 : tie.Need-enum-told-2
 enum-told-2 c = search needs
 
--- src/reading.rt:133:13
 store-method-requires : tie.Need-store-method-requires
 store-method-requires c κs = method-fits (c .before .before .before .before .before .before .before .before .before .before .before .before .before .before .before .before .before .pre .0) (c .before .before .before .before .before .before .before .before .before .before .before .before .before .before .before .before .before .pre .1 .0) [] _ (c .before .before .before .before .before .before .before .before .before .before .before .before .before .before .before .before .before .pre .1 .1) (c .before .before .before .before .enum-told2 .given .1)
 
--- src/reading.rt:134:28
 add-next-2 : tie.Need-add-next-2
 add-next-2 c = search needs
 
--- src/reading.rt:137:17
 enum-told-3 : tie.Need-enum-told-3
 enum-told-3 c = search needs
 
--- src/reading.rt:138:13
 store-edge-requires : tie.Need-store-edge-requires
 store-edge-requires c κs = edge-fits (c .before .before .before .before .before .before .before .before .before .before .before .before .before .before .before .before .pre .0) (c .before .before .before .before .before .before .before .before .before .before .before .before .before .before .before .before .pre .1 .0) [] _ (c .before .before .before .before .before .before .before .before .before .before .before .before .before .before .before .before .pre .1 .1) (c .before .before .before .enum-told3 .given .1)
 
--- src/reading.rt:139:26
 add-next-3 : tie.Need-add-next-3
 add-next-3 c = search needs
 
--- src/reading.rt:142:28
 enum-told-4 : tie.Need-enum-told-4
 enum-told-4 c = search needs
 
--- src/reading.rt:142:28
 array-read-next : tie.Need-array-read-next
 array-read-next c = search needs
 
--- src/reading.rt:143:27
 array-read-next-2 : tie.Need-array-read-next-2
 array-read-next-2 c = search needs
 
--- src/reading.rt:103:1
 same-length : tie.Need-same-length
 same-length c = search needs
 
--- src/reading.rt:103:1
 same-length-2 : tie.Need-same-length-2
 same-length-2 c = search needs
 
--- src/reading.rt:103:1
 returns : tie.Need-returns
 returns c = table-stored (c .before .before .before .before .before .before .before .before .before .before .before .before .before .before .before .before .before .before .before .before .pre .0) (c .before .before .before .before .before .before .before .before .before .before .before .before .before .before .before .before .before .before .before .before .pre .1 .0) _ _ _ _ _ (c .before .before .before .before .before .before .before .before .before .stage-of .ensures) (c .before .before .before .before .before .before .before .enum-told .given .1) (c .before .before .before .before .before .before .before .before .before .before .before .before .before .before .before .before .before .before .before .before .pre .1 .1) (c .before .before .before .before .store-table .ensures .0) (c .before .before .before .before .store-table .ensures .1)
 
--- src/reading.rt:103:1
 same-length-3 : tie.Need-same-length-3
 same-length-3 c = search needs
 
--- src/reading.rt:103:1
 same-length-4 : tie.Need-same-length-4
 same-length-4 c = search needs
 
--- src/reading.rt:103:1
 same-length-5 : tie.Need-same-length-5
 same-length-5 c = search needs
 
--- src/reading.rt:103:1
 same-length-6 : tie.Need-same-length-6
 same-length-6 c = search needs
 
--- src/reading.rt:103:1
 returns-2 : tie.Need-returns-2
 returns-2 c = method-stored (c .before .before .before .before .before .before .before .before .before .before .before .before .before .before .before .before .before .before .before .before .before .before .before .before .before .before .pre .0) (c .before .before .before .before .before .before .before .before .before .before .before .before .before .before .before .before .before .before .before .before .before .before .before .before .before .before .pre .1 .0) _ _ _ _ _ _ _ (c .before .before .before .before .before .before .before .before .before .before .before .before .before .before .before .stage-of .ensures) (c .before .before .before .before .before .before .before .before .before .before .before .before .before .enum-told2 .given .1) (c .before .before .before .before .before .before .before .before .before .before .before .before .before .before .before .before .before .before .before .before .before .before .before .before .before .before .pre .1 .1) (c .before .before .before .before .before .before .before .before .store-method .ensures .0) (c .before .before .before .before .before .before .before .before .store-method .ensures .1) (c .before .before .before .before .before .before .before .before .store-method .ensures .2) (c .before .before .before .before .before .before .before .before .store-method .ensures .3)
 
--- src/reading.rt:103:1
 same-length-7 : tie.Need-same-length-7
 same-length-7 c = search needs
 
--- src/reading.rt:103:1
 same-length-8 : tie.Need-same-length-8
 same-length-8 c = search needs
 
--- src/reading.rt:103:1
 same-length-9 : tie.Need-same-length-9
 same-length-9 c = search needs
 
--- src/reading.rt:103:1
 returns-3 : tie.Need-returns-3
 returns-3 c = edge-stored (c .before .before .before .before .before .before .before .before .before .before .before .before .before .before .before .before .before .before .before .before .before .before .before .pre .0) (c .before .before .before .before .before .before .before .before .before .before .before .before .before .before .before .before .before .before .before .before .before .before .before .pre .1 .0) _ _ _ _ _ _ (c .before .before .before .before .before .before .before .before .before .before .before .before .stage-of .ensures) (c .before .before .before .before .before .before .before .before .before .before .enum-told3 .given .1) (c .before .before .before .before .before .before .before .before .before .before .before .before .before .before .before .before .before .before .before .before .before .before .before .pre .1 .1) (c .before .before .before .before .before .before .store-edge .ensures .0) (c .before .before .before .before .before .before .store-edge .ensures .1) (c .before .before .before .before .before .before .store-edge .ensures .2)
 
--- src/reading.rt:103:1
 returns-4 : tie.Need-returns-4
-returns-4 c = crew-stored (c .before .before .before .before .before .before .before .before .before .before .before .before .before .pre .0) (c .before .before .before .before .before .before .before .before .before .before .before .before .before .pre .1 .0) _ _ _  (c .before .before .stage-of .ensures) (c .enum-told4 .given .1)
+returns-4 c = crew-stored (c .before .before .before .before .before .before .before .before .before .before .before .before .before .pre .0) (c .before .before .before .before .before .before .before .before .before .before .before .before .before .pre .1 .0) _ _ _ (c .before .before .stage-of .ensures) (c .enum-told4 .given .1)
 
 pub store-spec : {M : Type 1} → statement M
 store-spec =
