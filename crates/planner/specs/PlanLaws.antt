@@ -37,7 +37,8 @@ use Rattle.pairs.specs.Places.{startOf}
 use Rattle.pairs.specs.PlaceLaws.{start-next, start-end, in-size, memo-row, memo-few}
 use Rattle.shares.specs.Shares.{few}
 use Rattle.planner.specs.declared.Answer.{Answer}
-use Rattle.runs.specs.Runs.{logOf, SearchReady, SearchDone}
+use Rattle.crew.specs.Logs.{logOf}
+use Rattle.runs.specs.Runs.{SearchReady, SearchDone}
 use Rattle.runs.specs.SearchLaws.{spared-written, spared-on, laid-length}
 use Rattle.planner.specs.Plans.{answerOf, outcomeOf, refusedWith}
 
