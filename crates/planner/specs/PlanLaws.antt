@@ -2,7 +2,7 @@
 use mathlib.Core.Path.{_≡_, refl, sym, ap, _∙_}
 use mathlib.Core.Bool.{Bool, true, false, cond}
 use mathlib.Core.List.{List, [], _∷_, _++_, map, List·Memᴰ, List·Memᴰ·not-nil, Memᴰ·cast}
-use Prim.Native.Nat.{ℕ, zero, suc, _+_, _-_, _/_, _^_, _≤_, _<_}
+use Prim.Native.Nat.{ℕ, zero, suc, _+_, _-_, _*_, _/_, _^_, _≤_, _<_}
 use native.Mathlib.Decide.{decLt, ℕ-discrete}
 use native.Mathlib.Omega.{arith}
 use lib.Count.{ones-step}
@@ -10,6 +10,8 @@ use lib.Dec.{eqb, ltb}
 use lib.Pow.{pow-pos}
 use lib.ListN.{length, getD, replicate, length-replicate}
 use borrow.Author.Tests.{eq-eqb, ne-eqb}
+use mir.Syntax.{w64}
+use mir.Val.{Fits}
 use Rattle.rules.specs.declared.Scheme.{Scheme}
 use Rattle.rules.specs.declared.NewScheme.the-variants.{Good}
 use Rattle.rules.specs.declared.Verdict.{Verdict}
@@ -286,3 +288,10 @@ module _ (i : Input) (e : firstOf (checks i) .number ≡ 0) {new : Lent} {r : La
       given = λ _. record { handed = d .handed; turns = record { scheme = scheme; named = named; sizes = d .sizes }; memory = filled; log = logged; answer = counted };
       refused = λ l. absurd (omega (arith, ap (λ (x : Verdict). x .number) (verdict-rooms i e), laid-verdict i z));
     }
+
+-- ---- the last row, over plain numbers: omega at a place deep in the code reads every record on the way to it
+pub last-cell : {n : ℕ} → n ≤ few → Fits w64 ((n - 1) * 8)
+last-cell h = omega arith
+
+pub last-in : {n m k : ℕ} → 1 ≤ n → n ≤ m → k ≡ m → n - 1 < k
+last-in a b e = omega arith
