@@ -61,7 +61,7 @@ read-planned text p rows scans left right divisors fixed outer inner result {v} 
     let u = cut-from (p .edges) in
     let m = cut-from (p .methods) in
     let whole : cutInput p rows scans left right divisors fixed outer inner result ≡ inputFor (readOf p rows scans left right divisors fixed outer inner result)
-        = λ k. textInput (queryOf (take (t k) rows) (take (t k) scans) (take (u k) left) (take (u k) right) (take (u k) divisors) (take (m k) fixed) (take (m k) outer) (take (m k) inner) (take (m k) result)) (p .workers) (p .scheme) in
+    = λ k. textInput (queryOf (take (t k) rows) (take (t k) scans) (take (u k) left) (take (u k) right) (take (u k) divisors) (take (m k) fixed) (take (m k) outer) (take (m k) inner) (take (m k) result)) (p .workers) (p .scheme) in
     let same : cutInput p rows scans left right divisors fixed outer inner result ≡ inputOf text = whole ∙ ap (λ (x : Reading). inputFor (x .read)) e in
     let d : Composed (verdict (inputOf text)) (inputOf text) before after r = subst (λ (i : Input). Composed (verdict i) i before after r) same c in
     record { bytes = d .bytes; lined = good-lined text (ap (λ (x : Reading). x .verdict .number) (sym e) ∙ z) (d .lined); put = d .put; short = d .short }

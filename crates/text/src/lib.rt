@@ -176,9 +176,10 @@ fn compose(text: &[u8], out: &mut [u8]) -> usize
 pub fn plan_bytes(query: &[u8], answer: &mut [u8]) -> usize
     ensures { λ r. ⌜ Written (now (query .entry)) (now (answer .entry)) (now (answer .exit)) r ⌝ }
 {
+    let room = answer.len();
     let mut lines = [0u8; 4096];
     let length = compose(query, &mut lines);
-    if answer.len() < length {
+    if room < length {
         return 0;
     }
     copy(&lines[0..length], answer);

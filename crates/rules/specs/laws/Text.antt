@@ -46,15 +46,17 @@ given-tree {i} e g =
 pub plan-exists : (i : Input) → verdict i .number ≡ 0 → (bytes : List ℕ) × PlanText i bytes
 plan-exists i e =
     let g = outcome-planned i .given e in
-    let t = given-tree e g in
-    (planLine (costOf (i .query) (t .tree)) (length (g .handed)) ++ joinLines (i .query) (t .tree), record {
-      tree = t .tree;
-      picked = t .picked;
-      whole = t .covers;
-      handed = g .handed;
-      turns = g .turns;
-      bytes-are = refl;
-    })
+    let t = given-tree e g in (
+      planLine (costOf (i .query) (t .tree)) (length (g .handed)) ++ joinLines (i .query) (t .tree),
+      record {
+        tree = t .tree;
+        picked = t .picked;
+        whole = t .covers;
+        handed = g .handed;
+        turns = g .turns;
+        bytes-are = refl;
+      },
+    )
 
 pub plan-unique : {i : Input} {a b : List ℕ} → PlanText i a → PlanText i b → a ≡ b
 plan-unique {i} {a} {b} p r =
@@ -164,6 +166,14 @@ zero-long {text} {old} w e = go (decLt (length old) (length (w .bytes)))
     go : Dec (length old < length (w .bytes)) → length old < length (w .bytes)
     go (yes l) = l
     go (no z) = absurd (omega (arith, answer-some text (w .answer), w .fits (omega arith) .0))
+
+-- the length is within the buffer
+pub written-within : {text old new : List ℕ} {r : ℕ} → Written text old new r → r ≤ length old
+written-within {old = old} {r = r} w = go (decLt (length old) (length (w .bytes)))
+  where
+    go : Dec (length old < length (w .bytes)) → r ≤ length old
+    go (yes l) = omega (arith, w .long l .0)
+    go (no z) = omega (arith, w .fits (omega arith) .0)
 
 -- A BUFFER OF 4,096 BYTES ALWAYS SUFFICES
 pub room-suffices : {text old new : List ℕ} {r : ℕ} (w : Written text old new r) → answerRoom ≤ length old → (r ≡ length (w .bytes)) × (new ≡ over (w .bytes) old)

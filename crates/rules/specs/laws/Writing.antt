@@ -112,6 +112,12 @@ joins-room q z (join x y m) v =
     let e = estimate (q .graph) (tablesOf x + tablesOf y) in
     let c = costOf q (join x y m) in
     let l = joinLine n (tablesOf x) (tablesOf y) m e c in
-    omega
-    (arith, length-append (joinLines q x) (joinLines q y ++ l), length-append (joinLines q y) l, joins-room q z x (v .0), joins-room q z y (v .1), size-sum (tablesOf x) (tablesOf y) (v .2 .apart),
-    join-room n (tablesOf x) (tablesOf y) m e c (z .graph .few-tables) (omega (arith, v .3 .to-count, z .few-methods)) (omega (arith, estimate-le (q .graph) (tablesOf x + tablesOf y))) (tree-below q z (join x y m) v))
+    omega (
+      arith,
+      length-append (joinLines q x) (joinLines q y ++ l),
+      length-append (joinLines q y) l,
+      joins-room q z x (v .0),
+      joins-room q z y (v .1),
+      size-sum (tablesOf x) (tablesOf y) (v .2 .apart),
+      join-room n (tablesOf x) (tablesOf y) m e c (z .graph .few-tables) (omega (arith, v .3 .to-count, z .few-methods)) (omega (arith, estimate-le (q .graph) (tablesOf x + tablesOf y))) (tree-below q z (join x y m) v),
+    )

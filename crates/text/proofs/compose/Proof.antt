@@ -196,4 +196,3 @@ compose-spec =
     plan-read-requires
     same-length-2
     returns-2)
-

@@ -44,4 +44,3 @@ plan-bytes-spec =
     copy-requires
     same-length
     returns-2)
-

@@ -100,4 +100,3 @@ plan-read-spec =
     put-answer-requires
     same-length
     returns)
-

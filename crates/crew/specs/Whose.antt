@@ -8,8 +8,8 @@ use native.Mathlib.Omega.{arith}
 use lib.Dec.{ltb}
 use lib.ListN.{length, getD}
 use borrow.Author.Tests.{lt-ltb, le-ltb}
-use Rattle.turns.specs.declared.turn.Worker.{Worker}
-use Rattle.turns.specs.Standing.{workerAt}
+use Rattle.crew.specs.declared.Worker.{Worker}
+use Rattle.crew.specs.Workers.{workerAt}
 
 -- r is the lowest of m workers with a pair left, or m
 pub record LowestLeft (workers : List Worker) (m r : ℕ) : Type 0 where
