@@ -3,13 +3,14 @@ use native.Mathlib.Omega.{arith}
 use lib.ListN.{length}
 use lib.Seq.{length-take-le}
 use Rattle.reader.specs.JudgeLaws.{good-fits}
+use Rattle.reader.specs.Columns.{columns}
 use Rattle.reader.specs.LoopLaws.{Reads, read-unfit, reads-start, read-refused, reads-next, read-end, line-in, place-small, rest-falls}
 use borrow.Author.Needs.{needs}
 use Rattle.reader.proofs.reading.read.Statement.{statement}
 use Rattle.reader.proofs.reading.read.Tie as tie
 
 abbrev Inv-loop : tie.InvT-loop
-Inv-loop text rows₀ scans₀ left₀ right₀ divisors₀ fixed₀ per-outer₀ per-inner₀ per-result₀ progress₀ rest₀ place₀ rows scans left right divisors fixed per-outer per-inner per-result progress rest place = Reads text rest place progress rows₀ scans₀ left₀ right₀ divisors₀ fixed₀ per-outer₀ per-inner₀ per-result₀ rows scans left right divisors fixed per-outer per-inner per-result
+Inv-loop text rows₀ scans₀ left₀ right₀ divisors₀ fixed₀ per-outer₀ per-inner₀ per-result₀ progress₀ rest₀ place₀ rows scans left right divisors fixed per-outer per-inner per-result progress rest place = Reads text rest place progress (columns rows₀ scans₀ left₀ right₀ divisors₀ fixed₀ per-outer₀ per-inner₀ per-result₀) (columns rows scans left right divisors fixed per-outer per-inner per-result)
 
 abbrev μ-loop : tie.MeasureT-loop
 μ-loop text rows₀ scans₀ left₀ right₀ divisors₀ fixed₀ per-outer₀ per-inner₀ per-result₀ progress₀ rest₀ place₀ rows scans left right divisors fixed per-outer per-inner per-result progress rest place = length rest
@@ -24,10 +25,10 @@ stopped-requires : tie.Need-stopped-requires Inv-loop μ-loop
 stopped-requires c κs = search needs
 
 returns : tie.Need-returns Inv-loop μ-loop
-returns c = read-unfit (c .before .before .before .before .before .before .before .before .before .before .before .before .before .before .args .text .now) (c .before .before .before .no-line .result) (c .before .before .before .no-line .ensures) _ (c .before .before .is-unfit .ensures) _ _ _ _ _ _ _ _ _ _ (c .before .if1 .taken) (c .stopped .ensures)
+returns c = read-unfit (c .before .before .before .before .before .before .before .before .before .before .before .before .before .before .args .text .now) (c .before .before .before .no-line .result) (c .before .before .before .no-line .ensures) _ (c .before .before .is-unfit .ensures) (columns (c .before .before .before .before .before .before .before .before .before .before .before .before .before .before .args .rows .now) (c .before .before .before .before .before .before .before .before .before .before .before .before .before .before .args .scans .now) (c .before .before .before .before .before .before .before .before .before .before .before .before .before .before .args .left .now) (c .before .before .before .before .before .before .before .before .before .before .before .before .before .before .args .right .now) (c .before .before .before .before .before .before .before .before .before .before .before .before .before .before .args .divisors .now) (c .before .before .before .before .before .before .before .before .before .before .before .before .before .before .args .fixed .now) (c .before .before .before .before .before .before .before .before .before .before .before .before .before .before .args .per-outer .now) (c .before .before .before .before .before .before .before .before .before .before .before .before .before .before .args .per-inner .now) (c .before .before .before .before .before .before .before .before .before .before .before .before .before .before .args .per-result .now)) _ (c .before .if1 .taken) (c .stopped .ensures)
 
 loop-holds : tie.Need-loop-holds Inv-loop μ-loop
-loop-holds c = reads-start (c .before .before .before .before .before .before .before .before .before .before .before .before .before .args .text .now) (c .before .before .no-line .result) (c .before .before .no-line .ensures) _ (c .before .is-unfit .ensures) _ _ _ _ _ _ _ _ _ (c .if1 .left) (c .before .before .before .before .before .before .before .before .before .before .before .before .before .pre)
+loop-holds c = reads-start (c .before .before .before .before .before .before .before .before .before .before .before .before .before .args .text .now) (c .before .before .no-line .result) (c .before .before .no-line .ensures) _ (c .before .is-unfit .ensures) _ (c .if1 .left) (c .before .before .before .before .before .before .before .before .before .before .before .before .before .pre)
 
 span-to-requires : tie.Need-span-to-requires Inv-loop μ-loop
 span-to-requires c κs = search needs
