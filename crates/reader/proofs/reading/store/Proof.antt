@@ -4,7 +4,7 @@ use Rattle.reader.proofs.reading.store.Statement.{statement}
 use Rattle.reader.proofs.reading.store.Tie as tie
 
 stage-of-requires : tie.Need-stage-of-requires
-stage-of-requires c κs = search needs
+stage-of-requires c κs = tt
 
 enum-told : tie.Need-enum-told
 enum-told c = search needs
