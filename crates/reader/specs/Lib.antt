@@ -4,8 +4,9 @@ pub mod CutLaws
 pub mod NumberLaws
 pub mod ValueLaws
 pub mod KindLaws
-pub mod ReadLaws
-pub mod Records
 pub mod JudgeLaws
+pub mod Records
+pub mod Columns
 pub mod StoreLaws
+pub mod ReadLaws
 pub mod LoopLaws

@@ -15,11 +15,12 @@ use Rattle.rules.specs.declared.forms.Kind.the-variants.{Table, Method, Edge, C
 use Rattle.rules.specs.declared.forms.Letter.{Letter}
 use Rattle.rules.specs.Limits.{maxBytes}
 use Rattle.rules.specs.Lines.{newline, lines}
-use Rattle.rules.specs.Reading.{Read, stage, values, lineForm, lineNumber, withRecord, withLineAs, withLine, stopped, ended, readFrom, unfit, reading}
+use Rattle.rules.specs.Reading.{Read, Reading, stage, values, lineForm, lineNumber, withRecord, withLineAs, withLine, stopped, ended, readFrom, unfit, reading}
 use Rattle.reader.specs.declared.kinds.Progress.{Progress}
 use Rattle.reader.specs.declared.reading.Held.{Held}
 use Rattle.reader.specs.Spans.{span}
-use Rattle.reader.specs.Records.{Recorded, Room, Within, Spare, readOf, readingOf, noLine, heldAs}
+use Rattle.reader.specs.Records.{Recorded, Within, noLine, heldAs}
+use Rattle.reader.specs.Columns.{Columns, readIn, RoomIn, SpareIn}
 use Rattle.reader.specs.ReadLaws.{Ended, fit-is, line-ends, lines-none, lines-next, after-length, after-ended}
 use Rattle.reader.specs.JudgeLaws.{numberAs}
 use Rattle.reader.specs.StoreLaws.{Stored, spared-same, spared-on}
@@ -49,8 +50,8 @@ with-line : {line cells : List ℕ} {kind : Kind} (s : Read) → Recorded line k
 with-line {line} {cells} {kind} s r = ap (λ (x : Letter). withLineAs x line s) (r .form) ∙ sym (same-record kind cells (values line) s (r .cells-are))
 
 -- ---- nine columns
-room-kept : {p : Progress} {rows scans left right divisors fixed perOuter perInner perResult rows′ scans′ left′ right′ divisors′ fixed′ perOuter′ perInner′ perResult′ : List ℕ} → Room rows scans left right divisors fixed perOuter perInner perResult → Spare p rows scans left right divisors fixed perOuter perInner perResult rows′ scans′ left′ right′ divisors′ fixed′ perOuter′ perInner′ perResult′ → Room rows′ scans′ left′ right′ divisors′ fixed′ perOuter′ perInner′ perResult′
-room-kept r s = record {
+room-kept : (p : Progress) (a b : Columns) → RoomIn a → SpareIn p a b → RoomIn b
+room-kept p a b r s = record {
   rows-fit = omega (arith, r .rows-fit, s .rows-spare .length-kept);
   scans-fit = omega (arith, r .scans-fit, s .scans-spare .length-kept);
   left-fit = omega (arith, r .left-fit, s .left-spare .length-kept);
@@ -62,76 +63,76 @@ room-kept r s = record {
   result-fit = omega (arith, r .result-fit, s .result-spare .length-kept);
 }
 
-spare-none : (p : Progress) (rows scans left right divisors fixed perOuter perInner perResult : List ℕ) → Spare p rows scans left right divisors fixed perOuter perInner perResult rows scans left right divisors fixed perOuter perInner perResult
-spare-none p rows scans left right divisors fixed perOuter perInner perResult = record {
-  rows-spare = spared-same (p .tables) rows;
-  scans-spare = spared-same (p .tables) scans;
-  left-spare = spared-same (p .edges) left;
-  right-spare = spared-same (p .edges) right;
-  divisors-spare = spared-same (p .edges) divisors;
-  fixed-spare = spared-same (p .methods) fixed;
-  outer-spare = spared-same (p .methods) perOuter;
-  inner-spare = spared-same (p .methods) perInner;
-  result-spare = spared-same (p .methods) perResult;
+spare-none : (p : Progress) (a : Columns) → SpareIn p a a
+spare-none p a = record {
+  rows-spare = spared-same (p .tables) (a .rows);
+  scans-spare = spared-same (p .tables) (a .scans);
+  left-spare = spared-same (p .edges) (a .left);
+  right-spare = spared-same (p .edges) (a .right);
+  divisors-spare = spared-same (p .edges) (a .divisors);
+  fixed-spare = spared-same (p .methods) (a .fixed);
+  outer-spare = spared-same (p .methods) (a .perOuter);
+  inner-spare = spared-same (p .methods) (a .perInner);
+  result-spare = spared-same (p .methods) (a .perResult);
 }
 
-spare-on : {p n : Progress} {rows scans left right divisors fixed perOuter perInner perResult rows′ scans′ left′ right′ divisors′ fixed′ perOuter′ perInner′ perResult′ rows″ scans″ left″ right″ divisors″ fixed″ perOuter″ perInner″ perResult″ : List ℕ}
-    → p .tables ≤ n .tables → p .methods ≤ n .methods → p .edges ≤ n .edges → Spare p rows scans left right divisors fixed perOuter perInner perResult rows′ scans′ left′ right′ divisors′ fixed′ perOuter′ perInner′ perResult′ → Spare n rows′ scans′ left′ right′ divisors′ fixed′ perOuter′ perInner′ perResult′ rows″ scans″ left″ right″ divisors″ fixed″ perOuter″ perInner″ perResult″ → Spare n rows scans left right divisors fixed perOuter perInner perResult rows″ scans″ left″ right″ divisors″ fixed″ perOuter″ perInner″ perResult″
-spare-on {p} {n} {rows} {scans} {left} {right} {divisors} {fixed} {perOuter} {perInner} {perResult} {rows′} {scans′} {left′} {right′} {divisors′} {fixed′} {perOuter′} {perInner′} {perResult′} {rows″} {scans″} {left″} {right″} {divisors″} {fixed″} {perOuter″} {perInner″} {perResult″} t m e s u = record {
-  rows-spare = spared-on (p .tables) (n .tables) rows rows′ rows″ t (s .rows-spare) (u .rows-spare);
-  scans-spare = spared-on (p .tables) (n .tables) scans scans′ scans″ t (s .scans-spare) (u .scans-spare);
-  left-spare = spared-on (p .edges) (n .edges) left left′ left″ e (s .left-spare) (u .left-spare);
-  right-spare = spared-on (p .edges) (n .edges) right right′ right″ e (s .right-spare) (u .right-spare);
-  divisors-spare = spared-on (p .edges) (n .edges) divisors divisors′ divisors″ e (s .divisors-spare) (u .divisors-spare);
-  fixed-spare = spared-on (p .methods) (n .methods) fixed fixed′ fixed″ m (s .fixed-spare) (u .fixed-spare);
-  outer-spare = spared-on (p .methods) (n .methods) perOuter perOuter′ perOuter″ m (s .outer-spare) (u .outer-spare);
-  inner-spare = spared-on (p .methods) (n .methods) perInner perInner′ perInner″ m (s .inner-spare) (u .inner-spare);
-  result-spare = spared-on (p .methods) (n .methods) perResult perResult′ perResult″ m (s .result-spare) (u .result-spare);
+spare-on : (p n : Progress) (a b c : Columns) → p .tables ≤ n .tables → p .methods ≤ n .methods → p .edges ≤ n .edges → SpareIn p a b → SpareIn n b c → SpareIn n a c
+spare-on p n a b c t m e s u = record {
+  rows-spare = spared-on (p .tables) (n .tables) (a .rows) (b .rows) (c .rows) t (s .rows-spare) (u .rows-spare);
+  scans-spare = spared-on (p .tables) (n .tables) (a .scans) (b .scans) (c .scans) t (s .scans-spare) (u .scans-spare);
+  left-spare = spared-on (p .edges) (n .edges) (a .left) (b .left) (c .left) e (s .left-spare) (u .left-spare);
+  right-spare = spared-on (p .edges) (n .edges) (a .right) (b .right) (c .right) e (s .right-spare) (u .right-spare);
+  divisors-spare = spared-on (p .edges) (n .edges) (a .divisors) (b .divisors) (c .divisors) e (s .divisors-spare) (u .divisors-spare);
+  fixed-spare = spared-on (p .methods) (n .methods) (a .fixed) (b .fixed) (c .fixed) m (s .fixed-spare) (u .fixed-spare);
+  outer-spare = spared-on (p .methods) (n .methods) (a .perOuter) (b .perOuter) (c .perOuter) m (s .outer-spare) (u .outer-spare);
+  inner-spare = spared-on (p .methods) (n .methods) (a .perInner) (b .perInner) (c .perInner) m (s .inner-spare) (u .inner-spare);
+  result-spare = spared-on (p .methods) (n .methods) (a .perResult) (b .perResult) (c .perResult) m (s .result-spare) (u .result-spare);
 }
 
 -- the refusal of the next line by the records so far
-number-here : {p : Progress} {rows scans left right divisors fixed perOuter perInner perResult : List ℕ} → Room rows scans left right divisors fixed perOuter perInner perResult → Within p → (line : List ℕ)
-    → lineNumber (readOf p rows scans left right divisors fixed perOuter perInner perResult) line ≡ numberAs (lineForm line) p line
-number-here {p} {rows} {scans} {left} {right} {divisors} {fixed} {perOuter} {perInner} {perResult} r w line =
-    let t : length (take (p .tables) rows) ≡ p .tables = length-take-le (p .tables) rows (le-trans (w .tables) (r .rows-fit)) in
-    let m : length (take (p .methods) fixed) ≡ p .methods = length-take-le (p .methods) fixed (le-trans (w .methods) (r .fixed-fit)) in
-    let e : length (take (p .edges) left) ≡ p .edges = length-take-le (p .edges) left (le-trans (w .edges) (r .left-fit)) in
+number-here : (p : Progress) (a : Columns) → RoomIn a → Within p → (line : List ℕ) → lineNumber (readIn p a) line ≡ numberAs (lineForm line) p line
+number-here p a r w line =
+    let t : length (take (p .tables) (a .rows)) ≡ p .tables = length-take-le (p .tables) (a .rows) (le-trans (w .tables) (r .rows-fit)) in
+    let m : length (take (p .methods) (a .fixed)) ≡ p .methods = length-take-le (p .methods) (a .fixed) (le-trans (w .methods) (r .fixed-fit)) in
+    let e : length (take (p .edges) (a .left)) ≡ p .edges = length-take-le (p .edges) (a .left) (le-trans (w .edges) (r .left-fit)) in
     rw (t, m, e) refl
 
 -- ---- all lines
 -- between two lines: `rest` is still to be read
-pub record Reads (text rest : List ℕ) (place : ℕ) (p : Progress) (rows scans left right divisors fixed perOuter perInner perResult rows′ scans′ left′ right′ divisors′ fixed′ perOuter′ perInner′ perResult′ : List ℕ) : Type 0 where
-  pub spare : Spare p rows scans left right divisors fixed perOuter perInner perResult rows′ scans′ left′ right′ divisors′ fixed′ perOuter′ perInner′ perResult′
+pub record Reads (text rest : List ℕ) (place : ℕ) (p : Progress) (a b : Columns) : Type 0 where
+  pub spare : SpareIn p a b
   pub within : Within p
-  pub room : Room rows′ scans′ left′ right′ divisors′ fixed′ perOuter′ perInner′ perResult′
-  pub goes : readFrom place (readOf p rows′ scans′ left′ right′ divisors′ fixed′ perOuter′ perInner′ perResult′) (lines rest) ≡ reading text
+  pub room : RoomIn b
+  pub goes : readFrom place (readIn p b) (lines rest) ≡ reading text
   pub last : Ended rest
   pub count : place + length rest ≤ length text + 1
   pub short : length text ≤ maxBytes
 
 -- what `read` promises
-abbrev pub Ends : List ℕ → Held → (rows scans left right divisors fixed perOuter perInner perResult rows′ scans′ left′ right′ divisors′ fixed′ perOuter′ perInner′ perResult′ : List ℕ) → Type 0
-Ends text h rows scans left right divisors fixed perOuter perInner perResult rows′ scans′ left′ right′ divisors′ fixed′ perOuter′ perInner′ perResult′ =
-    (readingOf h rows′ scans′ left′ right′ divisors′ fixed′ perOuter′ perInner′ perResult′ ≡ reading text) × (Spare (h .progress) rows scans left right divisors fixed perOuter perInner perResult rows′ scans′ left′ right′ divisors′ fixed′ perOuter′ perInner′ perResult′ × Within (h .progress))
+abbrev readingIn : Held → Columns → Reading
+readingIn h b = record { verdict = h .verdict; read = readIn (h .progress) b }
+
+abbrev pub Ends : List ℕ → Held → (a b : Columns) → Type 0
+Ends text h a b = (readingIn h b ≡ reading text) × (SpareIn (h .progress) a b × Within (h .progress))
 
 nothing-within : (p : Progress) → p ≡ noLine → Within p
 nothing-within p e = rw e (record { tables = omega arith; methods = omega arith; edges = omega arith })
 
-module _ (text : List ℕ) (p : Progress) (z : p ≡ noLine) (u : Bool) (e : u ≡ unfit text) (rows scans left right divisors fixed perOuter perInner perResult : List ℕ) where
-  pub read-unfit : (h : Held) → u ≡ true → h ≡ heldAs 24 0 p → Ends text h rows scans left right divisors fixed perOuter perInner perResult rows scans left right divisors fixed perOuter perInner perResult
+module _ (text : List ℕ) (p : Progress) (z : p ≡ noLine) (u : Bool) (e : u ≡ unfit text) (a : Columns) where
+  pub read-unfit : (h : Held) → u ≡ true → h ≡ heldAs 24 0 p → Ends text h a a
   unfolding reading
   read-unfit h t f =
       let g : h ≡ heldAs 24 0 noLine = f ∙ ap (heldAs 24 0) z in
       let y : unfit text ≡ true = sym e ∙ t in
-      rw (g, y) (refl, (spare-none noLine rows scans left right divisors fixed perOuter perInner perResult, nothing-within noLine refl))
+      rw (g, y) (refl, (spare-none noLine a, nothing-within noLine refl))
 
-  pub reads-start : u ≡ false → Room rows scans left right divisors fixed perOuter perInner perResult → Reads text text 1 p rows scans left right divisors fixed perOuter perInner perResult rows scans left right divisors fixed perOuter perInner perResult
+  pub reads-start : u ≡ false → RoomIn a → Reads text text 1 p a a
   unfolding reading
   reads-start t r =
       let y : unfit text ≡ false = sym e ∙ t in
       let f = fit-is text y in
       record {
-        spare = spare-none p rows scans left right divisors fixed perOuter perInner perResult;
+        spare = spare-none p a;
         within = nothing-within p z;
         room = r;
         goes = rw (z, y) refl;
@@ -151,14 +152,14 @@ module _ (place : ℕ) (p : Progress) (h : Held) (at : ℕ) (s : at ≡ stage Cr
   pub ended-other : (p .latest ≡ at → ⊥) → h ≡ heldAs 23 place p → h ≡ endedAs place p
   ended-other n f = rw (ne-eqb (p .latest) (stage Crew) (λ e. n (e ∙ sym s))) f
 
-module _ {text rest : List ℕ} {place : ℕ} {p : Progress} {rows scans left right divisors fixed perOuter perInner perResult rows′ scans′ left′ right′ divisors′ fixed′ perOuter′ perInner′ perResult′ : List ℕ} (r : Reads text rest place p rows scans left right divisors fixed perOuter perInner perResult rows′ scans′ left′ right′ divisors′ fixed′ perOuter′ perInner′ perResult′) where
+module _ {text rest : List ℕ} {place : ℕ} {p : Progress} {a b : Columns} (r : Reads text rest place p a b) where
   -- after the last line
-  pub read-end : (h : Held) → length rest ≤ 0 → h ≡ endedAs place p → Ends text h rows scans left right divisors fixed perOuter perInner perResult rows′ scans′ left′ right′ divisors′ fixed′ perOuter′ perInner′ perResult′
-  read-end h l e = go (eqb (p .latest) (stage Crew)) e (sym (step-end place (readOf p rows′ scans′ left′ right′ divisors′ fixed′ perOuter′ perInner′ perResult′)) ∙ ap (readFrom place (readOf p rows′ scans′ left′ right′ divisors′ fixed′ perOuter′ perInner′ perResult′)) (sym (lines-none rest l)) ∙ r .goes)
+  pub read-end : (h : Held) → length rest ≤ 0 → h ≡ endedAs place p → Ends text h a b
+  read-end h l e = go (eqb (p .latest) (stage Crew)) e (sym (step-end place (readIn p b)) ∙ ap (readFrom place (readIn p b)) (sym (lines-none rest l)) ∙ r .goes)
     where
-      go : (b : Bool) → h ≡ cond b (heldAs 0 0 p) (heldAs 23 place p)
-          → cond b (record { verdict = record { number = 0; place = 0 }; read = readOf p rows′ scans′ left′ right′ divisors′ fixed′ perOuter′ perInner′ perResult′ }) (stopped 23 place (readOf p rows′ scans′ left′ right′ divisors′ fixed′ perOuter′ perInner′ perResult′)) ≡ reading text
-          → Ends text h rows scans left right divisors fixed perOuter perInner perResult rows′ scans′ left′ right′ divisors′ fixed′ perOuter′ perInner′ perResult′
+      go : (t : Bool) → h ≡ cond t (heldAs 0 0 p) (heldAs 23 place p)
+          → cond t (record { verdict = record { number = 0; place = 0 }; read = readIn p b }) (stopped 23 place (readIn p b)) ≡ reading text
+          → Ends text h a b
       go true e g = rw e (g, (r .spare, r .within))
       go false e g = rw e (g, (r .spare, r .within))
 
@@ -176,26 +177,26 @@ module _ {text rest : List ℕ} {place : ℕ} {p : Progress} {rows scans left ri
     pub rest-falls : length after < length rest
     rest-falls = omega (arith, line-in, after-length rest e q line-in)
 
-    split : readFrom place (readOf p rows′ scans′ left′ right′ divisors′ fixed′ perOuter′ perInner′ perResult′) (take e rest ∷ lines after) ≡ reading text
-    split = ap (readFrom place (readOf p rows′ scans′ left′ right′ divisors′ fixed′ perOuter′ perInner′ perResult′)) (sym (lines-next rest e q line-in)) ∙ r .goes
+    split : readFrom place (readIn p b) (take e rest ∷ lines after) ≡ reading text
+    split = ap (readFrom place (readIn p b)) (sym (lines-next rest e q line-in)) ∙ r .goes
 
     module _ (number : ℕ) (n : number ≡ numberAs (lineForm (take e rest)) p (take e rest)) where
-      told : lineNumber (readOf p rows′ scans′ left′ right′ divisors′ fixed′ perOuter′ perInner′ perResult′) (take e rest) ≡ number
-      told = number-here (r .room) (r .within) (take e rest) ∙ sym n
+      told : lineNumber (readIn p b) (take e rest) ≡ number
+      told = number-here p b (r .room) (r .within) (take e rest) ∙ sym n
 
-      pub read-refused : (h : Held) → (number ≡ 0 → ⊥) → h ≡ heldAs number place p → Ends text h rows scans left right divisors fixed perOuter perInner perResult rows′ scans′ left′ right′ divisors′ fixed′ perOuter′ perInner′ perResult′
-      read-refused h z f = rw f (sym (step-stop place (readOf p rows′ scans′ left′ right′ divisors′ fixed′ perOuter′ perInner′ perResult′) (take e rest) (lines after) number told z) ∙ split, (r .spare, r .within))
+      pub read-refused : (h : Held) → (number ≡ 0 → ⊥) → h ≡ heldAs number place p → Ends text h a b
+      read-refused h z f = rw f (sym (step-stop place (readIn p b) (take e rest) (lines after) number told z) ∙ split, (r .spare, r .within))
 
-      pub reads-next : {kind : Kind} {cells : List ℕ} {m : Progress} {rows″ scans″ left″ right″ divisors″ fixed″ perOuter″ perInner″ perResult″ : List ℕ}
-          → number ≡ 0 → Recorded (take e rest) kind cells → Stored kind cells p m rows′ scans′ left′ right′ divisors′ fixed′ perOuter′ perInner′ perResult′ rows″ scans″ left″ right″ divisors″ fixed″ perOuter″ perInner″ perResult″
-          → Reads text after (place + 1) m rows scans left right divisors fixed perOuter perInner perResult rows″ scans″ left″ right″ divisors″ fixed″ perOuter″ perInner″ perResult″
-      reads-next z d s =
-          let w = s .read ∙ sym (with-line (readOf p rows′ scans′ left′ right′ divisors′ fixed′ perOuter′ perInner′ perResult′) d) in
+      pub reads-next : {kind : Kind} {cells : List ℕ} {m : Progress} {c : Columns}
+          → number ≡ 0 → Recorded (take e rest) kind cells → Stored kind cells p m b c
+          → Reads text after (place + 1) m a c
+      reads-next {m = m} {c = c} z d s =
+          let w = s .read ∙ sym (with-line (readIn p b) d) in
           record {
-            spare = spare-on (s .tables-grow) (s .methods-grow) (s .edges-grow) (r .spare) (s .spare);
+            spare = spare-on p m a b c (s .tables-grow) (s .methods-grow) (s .edges-grow) (r .spare) (s .spare);
             within = s .within;
-            room = room-kept (r .room) (s .spare);
-            goes = ap (λ (x : Read). readFrom (place + 1) x (lines after)) w ∙ sym (step-next place (readOf p rows′ scans′ left′ right′ divisors′ fixed′ perOuter′ perInner′ perResult′) (take e rest) (lines after) (told ∙ z)) ∙ split;
+            room = room-kept m b c (r .room) (s .spare);
+            goes = ap (λ (x : Read). readFrom (place + 1) x (lines after)) w ∙ sym (step-next place (readIn p b) (take e rest) (lines after) (told ∙ z)) ∙ split;
             last = after-ended rest e q line-in (r .last);
             count = omega (arith, r .count, line-in, after-length rest e q line-in);
             short = r .short;

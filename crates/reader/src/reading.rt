@@ -7,6 +7,7 @@ ghost use lib.ListN.{length, getD, set};
 ghost use Rattle.rules.specs.declared.forms.Kind.the-variants.{Crew};
 ghost use Rattle.rules.specs.Reading.{stage, excess, unfit, reading};
 ghost use Rattle.reader.specs.Records.{Room, Within, Spare, readingOf, noLine, heldAs};
+ghost use Rattle.reader.specs.Columns.{columns};
 ghost use Rattle.reader.specs.StoreLaws.{Stored};
 use super::kinds::Judged;
 use super::kinds::Progress;
@@ -128,7 +129,7 @@ fn store(
     requires room { ⌜ Room (now rows) (now scans) (now left) (now right) (now divisors) (now fixed) (now «per_outer») (now «per_inner») (now «per_result») ⌝ }
     requires within { ⌜ Within progress ⌝ }
     requires fits { ⌜ excess (judged .kind) (progress .tables) (progress .methods) (progress .edges) ≡ false ⌝ }
-    ensures { λ r. ⌜ Stored (judged .kind) (judged .cells) progress r (now (rows .entry)) (now (scans .entry)) (now (left .entry)) (now (right .entry)) (now (divisors .entry)) (now (fixed .entry)) (now («per_outer» .entry)) (now («per_inner» .entry)) (now («per_result» .entry)) (now (rows .exit)) (now (scans .exit)) (now (left .exit)) (now (right .exit)) (now (divisors .exit)) (now (fixed .exit)) (now («per_outer» .exit)) (now («per_inner» .exit)) (now («per_result» .exit)) ⌝ }
+    ensures { λ r. ⌜ Stored (judged .kind) (judged .cells) progress r (columns (now (rows .entry)) (now (scans .entry)) (now (left .entry)) (now (right .entry)) (now (divisors .entry)) (now (fixed .entry)) (now («per_outer» .entry)) (now («per_inner» .entry)) (now («per_result» .entry))) (columns (now (rows .exit)) (now (scans .exit)) (now (left .exit)) (now (right .exit)) (now (divisors .exit)) (now (fixed .exit)) (now («per_outer» .exit)) (now («per_inner» .exit)) (now («per_result» .exit))) ⌝ }
 {
     let kind = judged.kind;
     let cells = judged.cells;

@@ -11,7 +11,7 @@ shared-slice-read-letter-of : tie.Need-shared-slice-read-letter-of
 shared-slice-read-letter-of c = search needs
 
 letter-of-requires : tie.Need-letter-of-requires
-letter-of-requires c κs = search needs
+letter-of-requires c κs = tt
 
 returns-2 : tie.Need-returns-2
 returns-2 c = c .letter-of .ensures ∙ form-letter (c .before .before .before .before .args .first .now) (c .before .before .if1 .left)

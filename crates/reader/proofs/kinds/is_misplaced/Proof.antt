@@ -4,7 +4,7 @@ use Rattle.reader.proofs.kinds.is_misplaced.Statement.{statement}
 use Rattle.reader.proofs.kinds.is_misplaced.Tie as tie
 
 stage-of-requires : tie.Need-stage-of-requires
-stage-of-requires c κs = search needs
+stage-of-requires c κs = tt
 
 enum-told : tie.Need-enum-told
 enum-told c = search needs
@@ -22,19 +22,19 @@ enum-told-4 : tie.Need-enum-told-4
 enum-told-4 c = search needs
 
 returns : tie.Need-returns
-returns c = next-table _ (c .before .before .before .before .args .latest) _ _ _ (c .before .before .before .stage-of .ensures) (c .before .enum-told .given .1) (c .if1 .taken)
+returns c = next-table (c .before .before .before .before .args .kind) (c .before .before .before .before .args .latest) (c .before .before .before .before .args .tables) (c .before .before .before .before .args .first) (c .before .before .before .stage-of .result) (c .before .before .before .stage-of .ensures) (c .before .enum-told .given .1) (c .if1 .taken)
 
 returns-2 : tie.Need-returns-2
-returns-2 c = other-table _ (c .before .before .before .before .args .latest) _ _ _ (c .before .before .before .stage-of .ensures) (c .before .enum-told .given .1) (c .if1 .left)
+returns-2 c = other-table (c .before .before .before .before .args .kind) (c .before .before .before .before .args .latest) (c .before .before .before .before .args .tables) (c .before .before .before .before .args .first) (c .before .before .before .stage-of .result) (c .before .before .before .stage-of .ensures) (c .before .enum-told .given .1) (c .if1 .left)
 
 returns-3 : tie.Need-returns-3
-returns-3 c = method-place _ (c .before .before .before .args .latest) _ _ _ (c .before .before .stage-of .ensures) (c .enum-told2 .given .1)
+returns-3 c = method-place (c .before .before .before .args .kind) (c .before .before .before .args .latest) (c .before .before .before .args .tables) (c .before .before .before .args .first) (c .before .before .stage-of .result) (c .before .before .stage-of .ensures) (c .enum-told2 .given .1)
 
 returns-4 : tie.Need-returns-4
-returns-4 c = edge-place _ (c .before .before .before .args .latest) _ _ _ (c .before .before .stage-of .ensures) (c .enum-told3 .given .1)
+returns-4 c = edge-place (c .before .before .before .args .kind) (c .before .before .before .args .latest) (c .before .before .before .args .tables) (c .before .before .before .args .first) (c .before .before .stage-of .result) (c .before .before .stage-of .ensures) (c .enum-told3 .given .1)
 
 returns-5 : tie.Need-returns-5
-returns-5 c = crew-place _ (c .before .before .before .args .latest) _ _ _ (c .before .before .stage-of .ensures) (c .enum-told4 .given .1)
+returns-5 c = crew-place (c .before .before .before .args .kind) (c .before .before .before .args .latest) (c .before .before .before .args .tables) (c .before .before .before .args .first) (c .before .before .stage-of .result) (c .before .before .stage-of .ensures) (c .enum-told4 .given .1)
 
 pub is-misplaced-spec : {M : Type 1} → statement M
 is-misplaced-spec =

@@ -5,10 +5,10 @@ use Rattle.reader.proofs.kinds.judge.Statement.{statement}
 use Rattle.reader.proofs.kinds.judge.Tie as tie
 
 field-of-requires : tie.Need-field-of-requires
-field-of-requires c κs = search needs
+field-of-requires c κs = tt
 
 form-of-requires : tie.Need-form-of-requires
-form-of-requires c κs = search needs
+form-of-requires c κs = tt
 
 enum-known-form : tie.Need-enum-known-form
 enum-known-form c = search needs
@@ -20,7 +20,7 @@ enum-told : tie.Need-enum-told
 enum-told c = search needs
 
 bad-requires : tie.Need-bad-requires
-bad-requires c κs = search needs
+bad-requires c κs = tt
 
 returns : tie.Need-returns
 returns c = judged-known (c .before .before .before .before .before .before .before .args .progress) (c .before .before .before .before .before .before .before .args .line .now) _ _ _ (c .before .before .before .before .before .field-of .ensures) (c .before .before .before .before .form-of .ensures) _ (c .before .before .form .given .1) (c .judge-form .ensures)

@@ -21,10 +21,10 @@ add-field-of : tie.Need-add-field-of Inv-loop μ-loop
 add-field-of c = search needs
 
 field-of-requires : tie.Need-field-of-requires Inv-loop μ-loop
-field-of-requires c κs = search needs
+field-of-requires c κs = tt
 
 read-number-requires : tie.Need-read-number-requires Inv-loop μ-loop
-read-number-requires c κs = search needs
+read-number-requires c κs = tt
 
 enum-known-value : tie.Need-enum-known-value Inv-loop μ-loop
 enum-known-value c = search needs

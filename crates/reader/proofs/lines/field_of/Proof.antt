@@ -20,7 +20,7 @@ loop-holds : tie.Need-loop-holds Inv-loop μ-loop
 loop-holds c = search needs
 
 span-to-requires : tie.Need-span-to-requires Inv-loop μ-loop
-span-to-requires c κs = search needs
+span-to-requires c κs = tt
 
 sub-result : tie.Need-sub-result Inv-loop μ-loop
 sub-result c = search needs
@@ -56,7 +56,7 @@ loop-again : tie.Need-loop-again Inv-loop μ-loop
 loop-again c = (omega (arith, rest-length (c .before .before .before .before .loop .rest .now) (c .before .before .span-to .result + 1)), c .before .before .before .before .loop .inv .1 ∙ field-next (c .before .before .before .before .loop .rest .now) (c .before .before .before .before .loop .left) _ (c .before .before .before .loop-test .taken) (c .before .before .span-to .ensures .0) (c .before .if1 .left))
 
 span-to-requires-2 : tie.Need-span-to-requires-2 Inv-loop μ-loop
-span-to-requires-2 c κs = search needs
+span-to-requires-2 c κs = tt
 
 slice-aggregate-result : tie.Need-slice-aggregate-result Inv-loop μ-loop
 slice-aggregate-result c = sym (length-take-le _ _ (c .before .span-to2 .ensures .1))

@@ -11,7 +11,7 @@ returns-2 : tie.Need-returns-2
 returns-2 c = number-long (c .before .before .before .args .s .now) (c .before .if1 .left) (c .if2 .taken)
 
 zero-led-requires : tie.Need-zero-led-requires
-zero-led-requires c κs = search needs
+zero-led-requires c κs = tt
 
 returns-3 : tie.Need-returns-3
 returns-3 c = number-led (c .before .before .before .before .before .args .s .now) (c .before .before .before .if1 .left) (c .before .before .if2 .left) (sym (c .before .zero-led .ensures) ∙ c .if3 .taken)
