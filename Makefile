@@ -15,7 +15,7 @@ test:
 	@tests/run
 
 lib:
-	@rt staticlib butirampol
+	@mkdir -p target && rt staticlib butirampol >target/staticlib.log 2>&1 || { cat target/staticlib.log; exit 1; }
 
 target/engine: examples/engine.c include/butirampol.h lib
 	@$(CC) $(CFLAGS) -o $@ $< $(LIBRARY)
@@ -23,9 +23,12 @@ target/engine: examples/engine.c include/butirampol.h lib
 target/buffers: tests/c/buffers.c include/butirampol.h lib
 	@$(CC) $(CFLAGS) -o $@ $< $(LIBRARY)
 
+target/stack: tests/c/stack.c include/butirampol.h lib
+	@$(CC) $(CFLAGS) -o $@ $< $(LIBRARY) -lpthread
+
 engine: target/engine
 	@target/engine examples/worked.txt
 
 # what `rt ci` does not see: the compiled library behind its C header
-c-tests: target/engine target/buffers
+c-tests: target/engine target/buffers target/stack
 	@tests/examples
