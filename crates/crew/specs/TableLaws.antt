@@ -1,12 +1,10 @@
 -- The lowest worker with a pair left: a scan finds it, it is one, and the lowest of all is the lowest of the first.
-use mathlib.Core.Path.{_≡_, refl}
+use mathlib.Core.Path.{_≡_}
 use mathlib.Core.Bool.{true, false}
 use mathlib.Core.List.{List}
 use Prim.Native.Nat.{ℕ, _+_, _≤_, _<_}
-use native.Mathlib.Nat.{le-antisymm}
 use native.Mathlib.Decide.{ℕ-discrete}
 use native.Mathlib.Omega.{arith}
-use lib.ListN.{length}
 use Rattle.crew.specs.declared.worker.Worker.{Worker}
 use Rattle.crew.specs.Table.{workerAt, NoneLeft, LowestLeft}
 
