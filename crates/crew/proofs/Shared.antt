@@ -24,9 +24,9 @@ use denote.ArrayMemory.{array-apart, array-whole}
 use denote.Slice.{Room}
 use denote.Steps.{peeks}
 use denote.Struct.Laws as LL
-use Rattle.crew.specs.declared.worker.Worker.{Worker}
-use Rattle.crew.proofs.worker.Worker as T
-use Rattle.crew.proofs.worker.Worker.Laws as T′
+use Rattle.crew.specs.declared.Worker.{Worker}
+use Rattle.crew.proofs.Worker as T
+use Rattle.crew.proofs.Worker.Laws as T′
 
 -- ---- tests
 pub is-true : (b : Bool) → Holds b → b ≡ true

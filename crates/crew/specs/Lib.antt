@@ -1,3 +1,5 @@
--- The workers' table: what stands in it, and the lowest worker with a pair left.
-pub mod Table
-pub mod TableLaws
+-- The table of workers, whose turn it is, the log and the counts, and the laws that the proofs cite.
+pub mod Workers
+pub mod Whose
+pub mod Logs
+pub mod LeafLaws

@@ -2,8 +2,9 @@
 ghost use mathlib.Core.Path.{_≡_};
 ghost use Prim.Native.Nat.{_<_};
 ghost use lib.ListN.{length, set};
-ghost use Rattle.crew.specs.Table.{workerAt, LowestLeft};
-use super::worker::Worker;
+ghost use Rattle.crew.specs.Workers.{workerAt};
+ghost use Rattle.crew.specs.Whose.{LowestLeft};
+use super::Worker;
 
 // The lowest worker with a pair left, or the length.
 pub fn scan(workers: &[Worker]) -> usize

@@ -2,11 +2,12 @@
 ghost use mathlib.Core.Path.{_≡_};
 ghost use Prim.Native.Nat.{_<_};
 ghost use lib.ListN.{set};
-ghost use Rattle.crew.specs.Table.{workerAt, LowestLeft};
+ghost use Rattle.crew.specs.Workers.{workerAt};
+ghost use Rattle.crew.specs.Whose.{LowestLeft};
 use super::lent::read;
 use super::lent::scan;
 use super::lent::store;
-use super::worker::Worker;
+use super::Worker;
 
 // The lowest of eight workers with a pair left, or eight.
 pub fn lowest_left(workers: [Worker; 8]) -> usize

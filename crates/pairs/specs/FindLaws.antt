@@ -14,12 +14,13 @@ use Rattle.rules.specs.Query.{Graph, tableCount}
 use Rattle.rules.specs.Checked.{GoodGraph}
 use Rattle.rules.specs.Rows.{rowsOf, memo}
 use Rattle.rules.specs.laws.Bools.{not-both}
-use Rattle.pairs.specs.declared.places.Place.{Place}
+use Rattle.shares.specs.declared.places.Place.{Place}
 use Rattle.shares.specs.declared.Share.{Share}
 use Rattle.shares.specs.declared.Span.{Span}
 use Rattle.shares.specs.Shares.{few, ShareOf, spanOf, onSpan, inSpan}
 use Rattle.pairs.specs.Joinable.{isJoinable}
-use Rattle.pairs.specs.Places.{startOf, cellOf, firstOf, firstRow, endRow, aheadOf, ownAt, rowsIn, countAt, countTo, Ground, SpanCells, Along, RowFrom, At, nowhere, NextFrom}
+use Rattle.pairs.specs.Places.{startOf, cellOf, firstOf, firstRow, endRow, aheadOf, ownAt, rowsIn, countAt, countTo, Ground, SpanCells, Along, RowFrom, At, NextFrom}
+use Rattle.shares.specs.Nowhere.{nowhere}
 use Rattle.pairs.specs.PlaceLaws.{start-next, start-mono, start-memo, ahead-row, ahead-size, ahead-zero, ahead-end, first-from, first-le, memo-few, memo-inside, ahead-met, met-few}
 use Rattle.pairs.specs.SpanLaws.{span-true, share-total, share-fits, Lies, span-lies, on-lies}
 use Rattle.pairs.specs.LeafLaws.{Walked, walked-found}

@@ -29,7 +29,7 @@ use Rattle.rules.specs.laws.Complete.{mine, queue-mine}
 use Rattle.sets.specs.Laws.{rank-at, rank-lt}
 use Rattle.rows.specs.WalkLaws.{rows-fit}
 use Rattle.skips.specs.VectorLaws.{vectors-cells}
-use Rattle.pairs.specs.declared.places.Place.{Place}
+use Rattle.shares.specs.declared.places.Place.{Place}
 use Rattle.shares.specs.declared.Share.{Share}
 use Rattle.shares.specs.Shares.{ShareOf, inSpan, spanOf, onSpan}
 use Rattle.pairs.specs.Joinable.{isJoinable}

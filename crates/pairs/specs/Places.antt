@@ -14,9 +14,10 @@ use Rattle.rules.specs.Shares.{Numbered, met}
 use Rattle.rules.specs.laws.Complete.{mine}
 use Rattle.rows.specs.Walk.{upTo}
 use Rattle.memo.specs.Layout.{cellsTo}
-use Rattle.pairs.specs.declared.places.Place.{Place}
+use Rattle.shares.specs.declared.places.Place.{Place}
 use Rattle.shares.specs.declared.Share.{Share}
 use Rattle.shares.specs.declared.Span.{Span}
+use Rattle.shares.specs.Nowhere.{nowhere}
 use Rattle.shares.specs.Shares.{few, inSpan}
 use Rattle.pairs.specs.Joinable.{isJoinable}
 
@@ -122,8 +123,6 @@ pub record Along (g : Graph) (sets : List ℕ) (X : ℕ) (own : Span) (r : ℕ) 
   pub found : r < own .end → (inSpan own r ≡ true) × (isJoinable g X (getD sets r 0) ≡ true)
 
 -- ---- places
-abbrev pub nowhere : ℕ → Place
-nowhere T = record { left = false; size = 0; row = 0; inner = 0; number = T }
 
 -- driving row i of size d, or the end of that size's driving rows; x candidates come before it
 pub record RowFrom (g : Graph) (s d i x : ℕ) : Type 0 where

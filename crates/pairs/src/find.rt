@@ -1,7 +1,7 @@
 // A worker's next joinable pair. Overlaps are jumped by the skip value of a table that both rows hold.
 ghost use mathlib.Core.Path.{_≡_};
 ghost use mathlib.Core.Bool.{true};
-ghost use Prim.Native.Nat.{ℕ, _+_, _*_, _-_, _/_, _^_, _≤_, _<_};
+ghost use Prim.Native.Nat.{ℕ, _+_, _*_, _-_, _/_, _≤_, _<_};
 ghost use lib.ListN.{length, getD};
 ghost use Rattle.rules.specs.Limits.{maxTables};
 ghost use Rattle.rules.specs.Sets.{holds, Lowest};
@@ -10,13 +10,13 @@ ghost use Rattle.rules.specs.Checked.{GoodGraph};
 ghost use Rattle.shares.specs.Shares.{few, ShareOf, Aligned};
 ghost use Rattle.pairs.specs.Places.{firstOf, Ground, Hops, RowCells, Onward, SpanCells, Along, RowFrom, At, NextFrom, ownAt, SizesFit, countTo};
 ghost use Rattle.pairs.specs.Joinable.{isJoinable};
-use super::places::Place;
-use super::places::nowhere;
 use query::edges::edge_between;
 use sets::lowest_table;
 use sets::rank_of;
 use shares::Share;
 use shares::Span;
+use shares::places::Place;
+use shares::places::nowhere;
 use shares::span_of;
 use shares::span_on;
 

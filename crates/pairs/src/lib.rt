@@ -1,3 +1,2 @@
-// A worker's next joinable pair: places in the candidates of a size, and the search from a place on.
+// A worker's next joinable pair: the search through the candidates of a size from a place on.
 pub mod find;
-pub mod places;

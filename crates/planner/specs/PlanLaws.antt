@@ -2,7 +2,7 @@
 use mathlib.Core.Path.{_≡_, refl, sym, ap, _∙_}
 use mathlib.Core.Bool.{Bool, true, false, cond}
 use mathlib.Core.List.{List, [], _∷_, _++_, map, List·Memᴰ, List·Memᴰ·not-nil, Memᴰ·cast}
-use Prim.Native.Nat.{ℕ, zero, suc, _+_, _-_, _/_, _^_, _≤_, _<_}
+use Prim.Native.Nat.{ℕ, zero, suc, _+_, _-_, _*_, _/_, _^_, _≤_, _<_}
 use native.Mathlib.Decide.{decLt, ℕ-discrete}
 use native.Mathlib.Omega.{arith}
 use lib.Count.{ones-step}
@@ -10,6 +10,8 @@ use lib.Dec.{eqb, ltb}
 use lib.Pow.{pow-pos}
 use lib.ListN.{length, getD, replicate, length-replicate}
 use borrow.Author.Tests.{eq-eqb, ne-eqb}
+use mir.Syntax.{w64}
+use mir.Val.{Fits}
 use Rattle.rules.specs.declared.Scheme.{Scheme}
 use Rattle.rules.specs.declared.NewScheme.the-variants.{Good}
 use Rattle.rules.specs.declared.Verdict.{Verdict}
@@ -37,7 +39,8 @@ use Rattle.pairs.specs.Places.{startOf}
 use Rattle.pairs.specs.PlaceLaws.{start-next, start-end, in-size, memo-row, memo-few}
 use Rattle.shares.specs.Shares.{few}
 use Rattle.planner.specs.declared.Answer.{Answer}
-use Rattle.runs.specs.Runs.{logOf, SearchReady, SearchDone}
+use Rattle.crew.specs.Logs.{logOf}
+use Rattle.runs.specs.Runs.{SearchReady, SearchDone}
 use Rattle.runs.specs.SearchLaws.{spared-written, spared-on, laid-length}
 use Rattle.planner.specs.Plans.{answerOf, outcomeOf, refusedWith}
 
@@ -285,3 +288,10 @@ module _ (i : Input) (e : firstOf (checks i) .number ≡ 0) {new : Lent} {r : La
       given = λ _. record { handed = d .handed; turns = record { scheme = scheme; named = named; sizes = d .sizes }; memory = filled; log = logged; answer = counted };
       refused = λ l. absurd (omega (arith, ap (λ (x : Verdict). x .number) (verdict-rooms i e), laid-verdict i z));
     }
+
+-- ---- the last row, over plain numbers: omega at a place deep in the code reads every record on the way to it
+pub last-cell : {n : ℕ} → n ≤ few → Fits w64 ((n - 1) * 8)
+last-cell h = omega arith
+
+pub last-in : {n m k : ℕ} → 1 ≤ n → n ≤ m → k ≡ m → n - 1 < k
+last-in a b e = omega arith

@@ -10,6 +10,8 @@ use borrow.Author.Tests.{le-ltb, eq-eqb, ne-eqb}
 use lib.Dec.{ltb, leb}
 use lib.ListN.{length, getD, set}
 use lib.Seq.{set-getD}
+use mir.Syntax.{w64}
+use mir.Val.{Fits}
 use Rattle.rules.specs.Limits.{maxFixed, maxCoefficient}
 use Rattle.rules.specs.laws.Choice as order
 use Rattle.rules.specs.laws.Choice.{Best, best-keep, best-take}
@@ -146,3 +148,52 @@ module _ {fixed outer inner result : List ℕ} (ms : Methods fixed outer inner r
     pub second-best : b ≡ false → Best (BothWays fixed outer inner result x y ex ey er base) (unpack y base t)
     unfolding better
     second-best f = best-take (unpacked x ex ey er base d p) (unpacked y ey ex er base t q) (rw (sym e ∙ f) at (better-first (unpack x base d) (unpack y base t) .0))
+
+-- ---- the arithmetic of the loop over methods
+pub less-next : {k e : ℕ} → k < e → e - (k + 1) < e - k
+less-next l = omega arith
+
+pub past-all : {k e n : ℕ} → e ≡ n → e ≤ k → k ≤ n → k ≡ n
+past-all d l h = omega arith
+
+pub one-eight : 1 < 8
+one-eight = omega arith
+
+pub some-next : (k : ℕ) → 1 ≤ k + 1
+some-next k = omega arith
+
+module _ {fixed outer inner result : List ℕ} (z : Methods fixed outer inner result) where
+  pub some-outer : 0 < length outer
+  some-outer = omega (arith, z .outer-list, z .some)
+
+  pub some-inner : 0 < length inner
+  some-inner = omega (arith, z .inner-list, z .some)
+
+  pub some-result : 0 < length result
+  some-result = omega (arith, z .result-list, z .some)
+
+  -- method k + 1 of them
+  module _ {k e : ℕ} (l : k < e) (d : e ≡ length fixed) where
+    pub in-fixed : k < length fixed
+    in-fixed = omega arith
+
+    pub in-outer : k < length outer
+    in-outer = omega (arith, z .outer-list)
+
+    pub in-inner : k < length inner
+    in-inner = omega (arith, z .inner-list)
+
+    pub in-result : k < length result
+    in-result = omega (arith, z .result-list)
+
+    pub next-in : k + 1 ≤ length fixed
+    next-in = omega arith
+
+    pub next-few : k + 1 < 8
+    next-few = omega (arith, z .few)
+
+    pub cell-fits : Fits w64 (k * 8)
+    cell-fits = omega (arith, z .few)
+
+    pub next-fits : Fits w64 (k + 1)
+    next-fits = omega (arith, z .few)

@@ -30,14 +30,15 @@ use Rattle.memo.specs.LayoutLaws.{still-long, one-length}
 use Rattle.shares.specs.Shares.{shareOf}
 use Rattle.pairs.specs.PlaceLaws.{met-few}
 use Rattle.results.specs.Prices.{kept}
-use Rattle.turns.specs.declared.turn.Worker.{Worker}
-use Rattle.turns.specs.declared.turn.Handed as code
-use Rattle.turns.specs.Standing.{Columns, columns, choiceIn, Reach, Board, Ready, nobody, workerAt, Crew, Opened, TurnTaken, Final}
+use Rattle.crew.specs.declared.Worker.{Worker}
+use Rattle.crew.specs.declared.Handed as code
+use Rattle.turns.specs.Standing.{Columns, columns, choiceIn, Reach, Board, Ready, Crew, Opened, TurnTaken, Final}
+use Rattle.crew.specs.Workers.{nobody, workerAt}
 use Rattle.turns.specs.StandingLaws.{standing-open, standing-turn, standing-closed}
 use Rattle.turns.specs.QueueLaws.{waits-inside, stillMet, turn-progress, turn-progress-none}
 use Rattle.turns.specs.StepLaws.{set-at, driving-inside, inner-inside}
 use Rattle.turns.specs.StartLaws.{tables-fit, Starting, final-start, reach-start, ground-of, Prepared, estimated-of, board-of}
-use Rattle.turns.specs.Whose.{LowestLeft, whose, entriesOn}
+use Rattle.crew.specs.Whose.{LowestLeft, whose, entriesOn}
 use Rattle.rounds.specs.Rounds.{Printable, Shown, Listed, Between, Within, Started}
 
 -- whoever has the turn is one of the workers

@@ -8,8 +8,9 @@ use Rattle.rules.specs.Limits.{maxWorkers}
 use Rattle.rules.specs.declared.Scheme.{Scheme}
 use Rattle.rules.specs.Query.{Query}
 use Rattle.shares.specs.Shares.{few}
-use Rattle.turns.specs.declared.turn.Worker.{Worker}
-use Rattle.turns.specs.Standing.{Columns, Reach, workerAt, Final, Standing}
+use Rattle.crew.specs.declared.Worker.{Worker}
+use Rattle.turns.specs.Standing.{Columns, Reach, Final, Standing}
+use Rattle.crew.specs.Workers.{workerAt}
 use Rattle.turns.specs.StartLaws.{Prepared}
 
 -- a set that can be printed table by table

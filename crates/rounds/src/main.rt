@@ -1,5 +1,11 @@
 // Document 01's query turn by turn, under the four schemes with 1, 2, 3 and 8 workers: prints places, pairs and standing costs.
 // What it must print was worked out from document 01 apart from this code, and stands in `stdout`.
+use crew::Handed;
+use crew::Worker;
+use crew::nobody;
+use crew::whose::entries_on;
+use crew::whose::lowest;
+use crew::whose::whose_turn;
 use memo::columns::lay_starts;
 use memo::layout::lay_out;
 use refusals::check;
@@ -10,20 +16,15 @@ use sets::single;
 use shares::Share;
 use turns::open::open;
 use turns::scans::lay_scans;
-use turns::turn::Handed;
-use turns::turn::Worker;
-use turns::turn::nobody;
 use turns::turn::turn;
-use turns::whose::entries_on;
-use turns::whose::lowest;
-use turns::whose::whose_turn;
 ghost use mathlib.Core.Path.{_≡_};
 ghost use mathlib.Core.Bool.{true};
 ghost use Prim.Native.Nat.{ℕ, _+_, _≤_, _<_};
 ghost use lib.ListN.{length};
 ghost use Rattle.rules.specs.Limits.{maxWorkers};
 ghost use Rattle.query.specs.Lists.{queryOf};
-ghost use Rattle.turns.specs.Standing.{columns, workerAt};
+ghost use Rattle.turns.specs.Standing.{columns};
+ghost use Rattle.crew.specs.Workers.{workerAt};
 ghost use Rattle.turns.specs.StartLaws.{Prepared};
 ghost use Rattle.rounds.specs.Rounds.{Printable, Shown, Listed, Between, Within, Started};
 

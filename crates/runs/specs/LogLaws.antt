@@ -15,8 +15,8 @@ use Rattle.rules.specs.Refusals.{Memory}
 use Rattle.rules.specs.Answers.{Spared, shown, upTo, Logged}
 use Rattle.rules.specs.laws.Lists.{length-map, over-length}
 use Rattle.rules.specs.laws.Outcome.{resultAt}
-use Rattle.turns.specs.declared.turn.Handed as code
-use Rattle.runs.specs.Runs.{noted, SameLog, LogFits}
+use Rattle.crew.specs.declared.Handed as code
+use Rattle.crew.specs.Logs.{noted, SameLog, LogFits}
 
 -- ---- a lent list
 -- one more of its cells is written

@@ -25,17 +25,19 @@ use Rattle.rules.specs.laws.Choice.{Choice, Best, best-same}
 use Rattle.rules.specs.laws.Handed.{JoinablePair, With, Handed, row-stands}
 use Rattle.rules.specs.laws.Complete.{mine}
 use Rattle.rules.specs.laws.Outcome.{bestAt, best-least}
-use Rattle.turns.specs.declared.turn.Worker.{Worker}
-use Rattle.turns.specs.declared.turn.Handed as code
+use Rattle.crew.specs.declared.Worker.{Worker}
+use Rattle.crew.specs.declared.Handed as code
 use Rattle.shares.specs.Shares.{few, shareOf}
 use Rattle.pairs.specs.Places.{metAt, queueAt}
 use Rattle.pairs.specs.PlaceLaws.{start-memo, start-end, met-few}
 use Rattle.pairs.specs.GroundLaws.{queue-all, next-queue}
 use Rattle.results.specs.Prices.{kept}
-use Rattle.turns.specs.Standing.{Columns, choiceIn, Reach, Ready, nobody, workerAt, Crew, Opened, Handing, TurnTaken, Passed, Stood, FinalRow, Final, placesOf, Standing, queuesAt, handAt}
+use Rattle.turns.specs.Standing.{Columns, choiceIn, Reach, Ready, Crew, Opened, Handing, TurnTaken, Passed, Stood, FinalRow, Final, placesOf, Standing, queuesAt, handAt}
+use Rattle.crew.specs.Workers.{nobody, workerAt}
 use Rattle.turns.specs.PassedLaws.{passed-joinable}
 use Rattle.turns.specs.StandingLaws.{choice-same, standing-open, standing-turn, standing-closed}
-use Rattle.runs.specs.Runs.{Sizing, Turning, Pairs, noted, SameLog, LogFits, Tallied, Ran, Running}
+use Rattle.runs.specs.Runs.{Sizing, Turning, Pairs, Tallied, Ran, Running}
+use Rattle.crew.specs.Logs.{noted, SameLog, LogFits}
 use Rattle.turns.specs.QueueLaws.{waits-inside, turn-hand-none, turn-hand-some, some-left, empty-left, lowest-left, turn-other, same-workers, turn-pair, passed-then, then-passed, result-row, result-size, turn-pop}
 use Rattle.runs.specs.LogLaws.{logged-none, logged-more}
 use Rattle.runs.specs.TallyLaws.{tally-start, tally-same, tally-more, tally-counts, tally-few}

@@ -1,9 +1,8 @@
 -- The turns in a row: what holds between two sizes, and between two turns of a size.
 use mathlib.Core.Path.{_≡_}
-use mathlib.Core.Bool.{cond}
-use mathlib.Core.List.{List, [], _++_, map}
+use mathlib.Core.List.{List, _++_, map}
 use Prim.Native.Nat.{ℕ, suc, _+_, _-_, _*_, _≤_, _<_}
-use lib.ListN.{length, getD, take, drop, set, replicate}
+use lib.ListN.{length, getD, take, drop, replicate}
 use Rattle.rules.specs.Limits.{maxWorkers}
 use Rattle.rules.specs.declared.Scheme.{Scheme}
 use Rattle.rules.specs.Sets.{size}
@@ -20,11 +19,12 @@ use Rattle.rules.specs.Answers.{Spared, Logged, perWorker}
 use Rattle.rules.specs.laws.Turns.{Below}
 use Rattle.rules.specs.laws.Handed.{among, JoinablePair}
 use Rattle.skips.specs.Vectors.{written}
-use Rattle.turns.specs.declared.turn.Worker.{Worker}
-use Rattle.turns.specs.declared.turn.Handed as code
+use Rattle.crew.specs.declared.Worker.{Worker}
+use Rattle.crew.specs.Logs.{LogFits}
 use Rattle.shares.specs.Shares.{few}
-use Rattle.turns.specs.Whose.{LowestLeft}
-use Rattle.turns.specs.Standing.{Columns, choiceIn, Reach, nobody, workerAt, Passed, FinalRow, Final, placesOf, Standing, queuesAt}
+use Rattle.crew.specs.Whose.{LowestLeft}
+use Rattle.turns.specs.Standing.{Columns, choiceIn, Reach, Passed, FinalRow, Final, placesOf, Standing, queuesAt}
+use Rattle.crew.specs.Workers.{nobody, workerAt}
 
 -- ---- sizes in a row, of n in all, from size 2 on
 module _ (m : ℕ) (queues : ℕ → ℕ → List Numbered) (n : ℕ) (turns : List ℕ) where
@@ -39,34 +39,6 @@ module _ (m : ℕ) (queues : ℕ → ℕ → List Numbered) (n : ℕ) (turns : L
 -- the pairs of a list of turns
 abbrev pub Pairs : List (Hand Numbered) → Pair → Type 0
 Pairs h = among (map pairOf h)
-
--- the four columns of a log, as memory
-abbrev pub logOf : List ℕ → List ℕ → List ℕ → List ℕ → Memory
-logOf workers driving inner costs = record { sets = []; estimates = []; costs = []; outers = []; methods = []; skips = []; logWorkers = workers; logDriving = driving; logInner = inner; logCosts = costs }
-
--- the log with entry j anew, where it has room for it
-abbrev pub noted : Memory → ℕ → ℕ → code.Handed → Memory
-noted l j w p = logOf (set (l .logWorkers) j w) (set (l .logDriving) j (p .driving)) (set (l .logInner) j (p .inner)) (set (l .logCosts) j (p .cost))
-
--- two memories have the same log
-pub record SameLog (l l′ : Memory) : Type 0 where
-  pub workers : l .logWorkers ≡ l′ .logWorkers
-  pub driving : l .logDriving ≡ l′ .logDriving
-  pub inner : l .logInner ≡ l′ .logInner
-  pub costs : l .logCosts ≡ l′ .logCosts
-
--- the columns of a log have one length
-pub record LogFits (l : Memory) : Type 0 where
-  pub driving : length (l .logDriving) ≡ length (l .logWorkers)
-  pub inner : length (l .logInner) ≡ length (l .logWorkers)
-  pub costs : length (l .logCosts) ≡ length (l .logWorkers)
-
--- with a pair or without one
-abbrev pub notedIf : Memory → ℕ → ℕ → code.Handed → Memory
-notedIf l j w p = cond (p .found) (noted l j w p) l
-
-abbrev pub countIf : ℕ → code.Handed → ℕ
-countIf j p = cond (p .found) (j + 1) j
 
 -- "eight per-worker pair counts": how many each worker was handed; absent workers stand as they began
 pub record Tallied (m : ℕ) (workers : List Worker) (h : List (Hand Numbered)) : Type 0 where
@@ -102,10 +74,6 @@ pub record Running (q : Query) (scheme : Scheme) (m : ℕ) (turns : List ℕ) (l
   pub logged : Logged q handed lent log
   pub count : pairs ≡ length handed
   pub tally : Tallied m workers handed
-
--- how many pairs each worker was handed
-abbrev pub countsOf : List Worker → List ℕ
-countsOf workers = map (λ (v : Worker). v .handed) workers
 
 -- ---- the whole search
 -- what it may rely on: a checked query and crew, and a memo as laying out leaves it

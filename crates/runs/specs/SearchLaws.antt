@@ -26,16 +26,18 @@ use Rattle.rules.specs.laws.Lists.{length-map, over-length}
 use Rattle.memo.specs.Layout.{starts, cellStarts}
 use Rattle.rules.specs.laws.Bools.{true-or-false, not-both}
 use Rattle.skips.specs.Vectors.{written}
-use Rattle.turns.specs.declared.turn.Worker.{Worker}
-use Rattle.turns.specs.declared.turn.Handed as code
+use Rattle.crew.specs.declared.Worker.{Worker}
+use Rattle.crew.specs.declared.Handed as code
 use Rattle.shares.specs.Shares.{few}
 use Rattle.pairs.specs.PlaceLaws.{start-memo}
-use Rattle.turns.specs.Standing.{Columns, columns, Reach, Ready, Board, nobody, workerAt, Crew, Opened, TurnTaken}
+use Rattle.turns.specs.Standing.{Columns, columns, Reach, Ready, Board, Crew, Opened, TurnTaken}
+use Rattle.crew.specs.Workers.{nobody, workerAt, countsOf}
 use Rattle.turns.specs.QueueLaws.{stillMet, turn-found, turn-progress, turn-progress-none}
 use Rattle.turns.specs.StepLaws.{step-costs, step-outers, step-methods}
 use Rattle.turns.specs.StartLaws.{tables-fit, Starting, final-start, reach-start, ground-at, Prepared, board-of}
-use Rattle.turns.specs.Whose.{LowestLeft, whose, entriesOn}
-use Rattle.runs.specs.Runs.{notedIf, countIf, LogFits, Running, SearchReady, Kept, Between, Within, Underway, Carried, SearchDone, countsOf}
+use Rattle.crew.specs.Whose.{LowestLeft, whose, entriesOn}
+use Rattle.crew.specs.Logs.{notedIf, countIf, LogFits}
+use Rattle.runs.specs.Runs.{Running, SearchReady, Kept, Between, Within, Underway, Carried, SearchDone}
 use Rattle.runs.specs.RunLaws.{running-listed-some, running-lowest, running-listed-none, ran-start, running-open, pairs-few, running-closed, ran-sizes, ran-rows, ran-counts}
 
 -- ---- what is spare stays

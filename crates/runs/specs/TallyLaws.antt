@@ -17,8 +17,8 @@ use Rattle.rules.specs.Answers.{each, perWorker}
 use Rattle.rules.specs.laws.Bools.{true-or-false}
 use Rattle.rules.specs.laws.Turns.{sumTo, Below, counts-sum}
 use Rattle.rules.specs.laws.Hands.{only-absent}
-use Rattle.turns.specs.declared.turn.Worker.{Worker}
-use Rattle.turns.specs.Standing.{nobody, workerAt}
+use Rattle.crew.specs.declared.Worker.{Worker}
+use Rattle.crew.specs.Workers.{nobody, workerAt}
 use Rattle.runs.specs.Runs.{Tallied}
 
 -- ---- one more turn at the end

@@ -1,3 +1,2 @@
-// The turns in a row, size after size, and the log of them.
-pub mod log;
+// The turns in a row, size after size.
 pub mod search;

@@ -1,19 +1,19 @@
 // The turns in a row, size after size.
-ghost use mathlib.Core.Path.{_≡_};
 ghost use Rattle.query.specs.Lists.{queryOf};
 ghost use Rattle.turns.specs.Standing.{columns};
-ghost use Rattle.runs.specs.Runs.{logOf, SearchReady, SearchDone, countsOf};
-use super::log::note;
+ghost use Rattle.crew.specs.Logs.{logOf};
+ghost use Rattle.runs.specs.Runs.{SearchReady, SearchDone};
+use crew::counts_of;
+use crew::log::note;
+use crew::nobody;
+use crew::whose::entries_on;
+use crew::whose::lowest;
+use crew::whose::whose_turn;
 use memo::columns::lay_starts;
 use rules::Scheme;
 use turns::open::open;
 use turns::scans::lay_scans;
-use turns::turn::Worker;
-use turns::turn::nobody;
 use turns::turn::turn;
-use turns::whose::entries_on;
-use turns::whose::lowest;
-use turns::whose::whose_turn;
 
 // How many pairs the turns handed, and how many to each worker.
 pub struct Searched {
@@ -23,18 +23,6 @@ pub struct Searched {
 
 // Room for where the rows of each size begin: sizes 0 to N + 1, of at most 16 tables.
 const SIZES: usize = 18;
-
-// How many pairs each of eight workers was handed.
-fn counts_of(workers: [Worker; 8]) -> [u64; 8]
-    ensures { λ r. ⌜ r ≡ countsOf workers ⌝ }
-{
-    let mut counts = [0u64; 8];
-    for w in 0..8usize {
-        let worker = workers[w];
-        counts[w] = worker.handed;
-    }
-    counts
-}
 
 // Fills the memo by turns, from the smallest result size to the largest, and notes them in the log.
 pub fn search(

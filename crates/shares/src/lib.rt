@@ -1,10 +1,12 @@
 // Shares of a size's candidates, "before any test": which inner rows of a driving row a worker has.
 ghost use mathlib.Core.Path.{_≡_};
-ghost use Prim.Native.Nat.{ℕ, _+_, _-_, _^_, _≤_, _<_};
+ghost use Prim.Native.Nat.{_+_, _-_, _≤_, _<_};
 ghost use Rattle.rules.specs.Limits.{maxWorkers};
 ghost use Rattle.rules.specs.Shares.{cut, inCut};
 ghost use Rattle.shares.specs.Shares.{few, ShareFits, spanOf, onSpan, allSpan, clipped, shareOf};
 use rules::Scheme;
+
+pub mod places;
 
 // A worker's share of one size: the scheme, how many workers, which of them, how many candidates, and its cut of them.
 pub struct Share {

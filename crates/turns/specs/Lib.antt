@@ -1,6 +1,5 @@
 -- What a turn is, how the memo stands between turns, and the theorems of a size.
 pub mod Standing
-pub mod Whose
 pub mod PassedLaws
 pub mod QueueLaws
 pub mod StandingLaws

@@ -10,12 +10,13 @@ use Rattle.rules.specs.Limits.{maxWorkers}
 use Rattle.rules.specs.declared.Scheme.{Scheme}
 use Rattle.rules.specs.Query.{Graph}
 use Rattle.rules.specs.Shares.{met}
-use Rattle.pairs.specs.declared.places.Place.{Place}
+use Rattle.shares.specs.declared.places.Place.{Place}
 use Rattle.shares.specs.declared.Share.{Share}
 use Rattle.shares.specs.Shares.{shareOf, ShareOf}
 use Rattle.pairs.specs.Places.{startOf, NextFrom}
-use Rattle.turns.specs.declared.turn.Worker.{Worker}
-use Rattle.turns.specs.Standing.{nobody, workerAt, Opening}
+use Rattle.crew.specs.declared.Worker.{Worker}
+use Rattle.crew.specs.Workers.{nobody, workerAt}
+use Rattle.turns.specs.Standing.{Opening}
 
 -- a worker's share of the size
 pub share-is : (g : Graph) (s : ℕ) (scheme : Scheme) (m w : ℕ) {total : ℕ} {h : Share} → total ≡ length (met g s) → h ≡ shareOf scheme m w total → h ≡ shareOf scheme m w (length (met g s))

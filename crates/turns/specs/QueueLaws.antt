@@ -24,14 +24,15 @@ use Rattle.rules.specs.laws.Rows.{rows-only}
 use Rattle.rules.specs.laws.Handed.{With}
 use Rattle.rules.specs.laws.Turns.{sumTo, sum-same}
 use Rattle.rules.specs.laws.Complete.{mine}
-use Rattle.turns.specs.declared.turn.Worker.{Worker}
-use Rattle.pairs.specs.declared.places.Place.{Place}
+use Rattle.crew.specs.declared.Worker.{Worker}
+use Rattle.shares.specs.declared.places.Place.{Place}
 use Rattle.shares.specs.declared.Share.{Share}
-use Rattle.turns.specs.declared.turn.Handed as code
+use Rattle.crew.specs.declared.Handed as code
 use Rattle.pairs.specs.Places.{startOf, candidateAt, metAt, ownAt, Waits}
 use Rattle.pairs.specs.PlaceLaws.{in-size, memo-row}
 use Rattle.pairs.specs.GroundLaws.{at-number, next-queue, queue-here, queue-none}
-use Rattle.turns.specs.Standing.{Columns, nobody, workerAt, Crew, Handing, TurnTaken, Passed, placesOf, queuesAt, handAt}
+use Rattle.turns.specs.Standing.{Columns, Crew, Handing, TurnTaken, Passed, placesOf, queuesAt, handAt}
+use Rattle.crew.specs.Workers.{nobody, workerAt}
 use Rattle.turns.specs.PassedLaws.{passed-to, passed-from}
 
 -- ---- sums

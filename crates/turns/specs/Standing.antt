@@ -7,7 +7,6 @@ use Prim.Native.Nat.{ℕ, _+_, _-_, _*_, _≤_, _<_}
 use lib.ListN.{length, getD, set, take, drop}
 use Rattle.rules.specs.Limits.{costBound}
 use Rattle.rules.specs.declared.Scheme.{Scheme}
-use Rattle.rules.specs.declared.Scheme.the-variants.{CutCandidates}
 use Rattle.rules.specs.Lists.{keep}
 use Rattle.rules.specs.Query.{Graph, Query, tableCount}
 use Rattle.rules.specs.Estimate.{estimate}
@@ -21,10 +20,11 @@ use Rattle.rules.specs.laws.Choice.{Choice, Best}
 use Rattle.rules.specs.laws.Handed.{Handed}
 use Rattle.rules.specs.laws.Complete.{mine}
 use Rattle.rules.specs.laws.Outcome.{bestAt}
-use Rattle.turns.specs.declared.turn.Worker.{Worker}
-use Rattle.turns.specs.declared.turn.Handed as code
+use Rattle.crew.specs.declared.Worker.{Worker}
+use Rattle.crew.specs.declared.Handed as code
+use Rattle.crew.specs.Workers.{workerAt}
 use Rattle.shares.specs.Shares.{few, ShareOf, shareOf}
-use Rattle.pairs.specs.Places.{startOf, metAt, Ground, nowhere, Waits, NextFrom}
+use Rattle.pairs.specs.Places.{startOf, metAt, Ground, Waits, NextFrom}
 use Rattle.results.specs.Prices.{choiceAt, kept, Methods, BothWays}
 
 -- ---- the columns that the search fills
@@ -71,14 +71,6 @@ pub record Ready (g : Graph) (s : ℕ) (v : Worker) : Type 0 where
   pub share : ShareOf g s (v .share)
   pub waits : Waits g s (v .share) (v .place)
   pub handed : v .handed ≤ (s - 2) * few + v .place .number
-
--- no worker
-abbrev pub nobody : Worker
-nobody = record { share = record { scheme = CutCandidates; workers = 0; worker = 0; total = 0; from = 0; to = 0 }; place = nowhere 0; last = 0; handed = 0 }
-
--- worker w of the table
-abbrev pub workerAt : List Worker → ℕ → Worker
-workerAt workers w = getD workers w nobody
 
 -- "The workers stand in one table": each of the m at its place in result size s
 pub record Crew (g : Graph) (s : ℕ) (scheme : Scheme) (m : ℕ) (workers : List Worker) : Type 0 where

@@ -32,9 +32,9 @@ use Rattle.rules.specs.laws.Reference.{better, better-first, better-one}
 use Rattle.rules.specs.laws.Rows.{memo-only, memo-once, rows-only}
 use Rattle.rules.specs.laws.Complete.{mine, pair-met, met-one, true-joinable}
 use Rattle.rules.specs.laws.Outcome.{bestAt, best-least}
-use Rattle.turns.specs.declared.turn.Worker.{Worker}
-use Rattle.pairs.specs.declared.places.Place.{Place}
-use Rattle.turns.specs.declared.turn.Handed as code
+use Rattle.crew.specs.declared.Worker.{Worker}
+use Rattle.shares.specs.declared.places.Place.{Place}
+use Rattle.crew.specs.declared.Handed as code
 use Rattle.shares.specs.Shares.{shareOf}
 use Rattle.pairs.specs.Places.{startOf, metAt, noCandidate, At, ownAt, NextFrom}
 use Rattle.pairs.specs.PlaceLaws.{start-next, start-mono, start-memo, memo-row}
@@ -42,7 +42,8 @@ use Rattle.pairs.specs.GroundLaws.{at-number}
 use Rattle.results.specs.Prices.{kept, BothWays}
 use Rattle.turns.specs.PassedLaws.{passed-joinable}
 use Rattle.turns.specs.QueueLaws.{turn-other, same-workers, passed-then, then-passed, result-row}
-use Rattle.turns.specs.Standing.{Columns, choiceIn, stored, Reach, Ready, workerAt, Crew, pairAt, Handing, TurnTaken, Passed, Stood, FinalRow, Final, placesOf, Standing, handAt}
+use Rattle.turns.specs.Standing.{Columns, choiceIn, stored, Reach, Ready, Crew, pairAt, Handing, TurnTaken, Passed, Stood, FinalRow, Final, placesOf, Standing, handAt}
+use Rattle.crew.specs.Workers.{workerAt}
 
 -- ---- rows of the memo
 pub once-at : (l : List ℕ) → Once l → (i j : ℕ) → i < length l → j < length l → getD l i 0 ≡ getD l j 0 → i ≡ j

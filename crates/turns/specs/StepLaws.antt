@@ -3,12 +3,14 @@ use mathlib.Core.Path.{_≡_, refl, sym, ap, _∙_}
 use mathlib.Core.Logic.{⊎-elim}
 use mathlib.Core.Bool.{true}
 use mathlib.Core.List.{List, map}
-use Prim.Native.Nat.{ℕ, _+_, _-_, _^_, _≤_, _<_}
+use Prim.Native.Nat.{ℕ, _+_, _-_, _*_, _^_, _≤_, _<_}
 use native.Mathlib.Omega.{arith}
 use lib.ListN.{length, getD, set, length-take, length-set}
 use lib.Pow.{pow-mono}
 use lib.Seq.{slice, getD-take, getD-set-same}
-use Rattle.rules.specs.Limits.{costBound}
+use mir.Syntax.{w64}
+use mir.Val.{Fits}
+use Rattle.rules.specs.Limits.{maxTables, costBound}
 use Rattle.rules.specs.Sets.{size, Splits}
 use Rattle.rules.specs.Query.{Graph, tableCount}
 use Rattle.rules.specs.Connected.{Connected}
@@ -31,15 +33,17 @@ use Rattle.rows.specs.Walk.{upTo}
 use Rattle.skips.specs.SizeRows.{SizeRows, InOrder, Stands}
 use Rattle.memo.specs.FindLaws.{rows-sized, rows-in-order, rows-stand}
 use Rattle.memo.specs.LayoutLaws.{rows-part}
-use Rattle.turns.specs.declared.turn.Worker.{Worker}
-use Rattle.turns.specs.declared.turn.Handed as code
-use Rattle.pairs.specs.declared.places.Place.{Place}
+use Rattle.crew.specs.declared.Worker.{Worker}
+use Rattle.crew.specs.declared.Handed as code
+use Rattle.shares.specs.declared.places.Place.{Place}
+use Rattle.shares.specs.Shares.{few}
 use Rattle.pairs.specs.Places.{startOf, metAt, noCandidate, At, NextFrom}
 use Rattle.pairs.specs.PlaceLaws.{start-mono, start-memo, first-from, memo-row, in-size}
 use Rattle.pairs.specs.GroundLaws.{ground-set, at-number}
 use Rattle.results.specs.declared.price.Choice.{Choice}
 use Rattle.results.specs.Prices.{choiceOf, kept, Estimates, BothWays}
-use Rattle.turns.specs.Standing.{Columns, choiceIn, stored, Board, Ready, pairAt, Handing, StepTaken, nobody, workerAt, TurnTaken}
+use Rattle.turns.specs.Standing.{Columns, choiceIn, stored, Board, Ready, pairAt, Handing, StepTaken, TurnTaken}
+use Rattle.crew.specs.Workers.{nobody, workerAt}
 use Rattle.turns.specs.StandingLaws.{at-smaller}
 
 module _ {g : Graph} {fixed outer inner result sets estimates cells starts cellStarts : List ℕ} {s : ℕ} {c : Columns} (b : Board g fixed outer inner result sets estimates cells starts cellStarts s c) where
@@ -204,3 +208,34 @@ pub turn-of : {g : Graph} {fixed outer inner result : List ℕ} {s : ℕ} {v′ 
 turn-of {v′ = v′} workers w l t =
     let e : workerAt (set workers w v′) w ≡ v′ = getD-set-same workers w v′ nobody l in
     record { step = rw e t; others = ap (set workers w) (sym e) }
+
+-- ---- the arithmetic of a turn, over plain numbers: omega at a place deep in the code reads every record on the way to it
+pub row-in : {i n m : ℕ} → i < n → n ≤ m → i < m
+row-in h l = omega arith
+
+pub set-fits : {n : ℕ} → n < 2 ^ 32 → Fits w64 n
+set-fits h = omega arith
+
+pub costs-fit : {n : ℕ} → n < costBound + costBound → Fits w64 n
+costs-fit h = omega arith
+
+-- result size s of n tables, in the table of starts
+module _ {s n : ℕ} (known : s ≤ n) (few-tables : n ≤ maxTables) where
+  pub size-cell : Fits w64 (s * 8)
+  size-cell = omega arith
+
+  pub size-next : Fits w64 (s + 1)
+  size-next = omega arith
+
+  pub next-cell : Fits w64 ((s + 1) * 8)
+  next-cell = omega arith
+
+pub size-in : {s n m : ℕ} → s ≤ n → n + 1 < m → s < m
+size-in h l = omega arith
+
+pub next-in : {s n m : ℕ} → s ≤ n → n + 1 < m → s + 1 < m
+next-in h l = omega arith
+
+-- one pair more
+pub handed-fits : {k s n p m : ℕ} → k ≤ (s - 2) * few + p → p < m → m ≤ few → s ≤ n → n ≤ maxTables → Fits w64 (k + 1)
+handed-fits a b c d e = omega arith

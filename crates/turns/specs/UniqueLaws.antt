@@ -18,18 +18,19 @@ use Rattle.rules.specs.laws.Choice as order
 use Rattle.rules.specs.laws.Choice.{Best, best-unique}
 use Rattle.rules.specs.laws.Rows.{memo-once}
 use Rattle.results.specs.declared.price.Choice.{Choice}
-use Rattle.pairs.specs.declared.places.Place.{Place}
+use Rattle.shares.specs.declared.places.Place.{Place}
 use Rattle.shares.specs.declared.Share.{Share}
-use Rattle.turns.specs.declared.turn.Worker.{Worker}
-use Rattle.turns.specs.declared.turn.Handed as code
+use Rattle.crew.specs.declared.Worker.{Worker}
+use Rattle.crew.specs.declared.Handed as code
 use Rattle.shares.specs.Shares.{shareOf}
 use Rattle.pairs.specs.Places.{startOf, candidateAt, metAt, ownAt, At, NextFrom}
 use Rattle.pairs.specs.PlaceLaws.{start-mono, first-from, memo-inside}
 use Rattle.pairs.specs.GroundLaws.{at-number}
 use Rattle.results.specs.Prices.{choiceOf, kept}
-use Rattle.turns.specs.Standing.{Columns, choiceIn, stored, pairAt, handedPair, nobody, workerAt, Handing, StepTaken, TurnTaken, Opened}
+use Rattle.turns.specs.Standing.{Columns, choiceIn, stored, pairAt, handedPair, Handing, StepTaken, TurnTaken, Opened}
+use Rattle.crew.specs.Workers.{nobody, workerAt}
 use Rattle.turns.specs.StandingLaws.{once-at}
-use Rattle.turns.specs.Whose.{LowestLeft}
+use Rattle.crew.specs.Whose.{LowestLeft}
 
 -- ---- rows
 -- a row has one size

@@ -2,4 +2,3 @@
 pub mod open;
 pub mod scans;
 pub mod turn;
-pub mod whose;

@@ -1,13 +1,12 @@
 // Opening a size: every worker at its first joinable pair.
-ghost use mathlib.Core.Path.{_≡_};
-ghost use Prim.Native.Nat.{ℕ, _*_, _-_, _≤_, _<_};
+ghost use Prim.Native.Nat.{_-_, _≤_};
 ghost use lib.ListN.{length};
 ghost use Rattle.rules.specs.Limits.{maxWorkers};
 ghost use Rattle.rules.specs.Query.{graphOf};
 ghost use Rattle.rules.specs.Checked.{GoodGraph};
 ghost use Rattle.pairs.specs.Places.{Ground};
 ghost use Rattle.turns.specs.Standing.{Opened};
-use super::turn::Worker;
+use crew::Worker;
 use pairs::find::count_candidates;
 use pairs::find::first_pair;
 use rules::Scheme;

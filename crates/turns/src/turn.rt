@@ -2,31 +2,14 @@
 ghost use mathlib.Core.Path.{_≡_};
 ghost use Prim.Native.Nat.{_<_};
 ghost use Rattle.rules.specs.Query.{graphOf};
-ghost use Rattle.turns.specs.Standing.{columns, Board, Ready, nobody, workerAt, noPair, StepTaken, TurnTaken};
+ghost use Rattle.turns.specs.Standing.{columns, Board, Ready, noPair, StepTaken, TurnTaken};
+ghost use Rattle.crew.specs.Workers.{workerAt};
+use crew::Handed;
+use crew::Worker;
 use pairs::find::next_pair;
-use pairs::places::Place;
-use pairs::places::nowhere;
 use results::keep::keep;
 use results::price::price;
 use results::seek::seek;
-use rules::Scheme;
-use shares::Share;
-
-// A worker of the table: its share of the size, its place, the memo row of its last result, how many pairs it was handed.
-pub struct Worker {
-    pub share: Share,
-    pub place: Place,
-    pub last: usize,
-    pub handed: u64,
-}
-
-// The pair that a turn handed and the cost in its result's row after the turn, or none and zeros.
-pub struct Handed {
-    pub found: bool,
-    pub driving: u64,
-    pub inner: u64,
-    pub cost: u64,
-}
 
 // One worker after its turn, and the pair handed.
 pub struct Stepped {
@@ -38,26 +21,6 @@ pub struct Stepped {
 pub struct Turned {
     pub workers: [Worker; 8],
     pub pair: Handed,
-}
-
-// A worker that is not there.
-pub fn nobody() -> Worker
-    ensures { λ r. ⌜ r ≡ nobody ⌝ }
-{
-    let share = Share {
-        scheme: Scheme::CutCandidates,
-        workers: 0,
-        worker: 0,
-        total: 0,
-        from: 0,
-        to: 0,
-    };
-    Worker {
-        share: share,
-        place: nowhere(0),
-        last: 0,
-        handed: 0,
-    }
 }
 
 fn no_pair() -> Handed

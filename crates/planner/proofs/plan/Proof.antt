@@ -1,10 +1,9 @@
 use mathlib.Core.Path.{refl, sym, ap, _∙_}
-use native.Mathlib.Omega.{arith}
 use Rattle.rules.specs.Refusals.{Input}
 use Rattle.query.specs.Lists.{queryOf}
 use Rattle.rules.specs.declared.Verdict.{Verdict}
 use Rattle.planner.specs.Plans.{memoryOf, inputOf}
-use Rattle.planner.specs.PlanLaws.{checks-are, refused-answer, lay-ready, laid-lengths, planned-checks, planned-rooms, search-ready, rows-some, rows-few, rows-fit, scheme-known, planned-given}
+use Rattle.planner.specs.PlanLaws.{checks-are, refused-answer, lay-ready, laid-lengths, planned-checks, planned-rooms, search-ready, rows-some, rows-few, rows-fit, last-cell, last-in, scheme-known, planned-given}
 use Rattle.runs.specs.SearchLaws.{logged-lengths}
 use Rattle.planner.proofs.plan.Statement.{statement}
 use Rattle.planner.proofs.plan.Tie as tie
@@ -94,7 +93,7 @@ mul-t29 c =
     let v = c .before .before .before .before .before .before .before .before .before .before .before .before .before .before .before .before .before .before .before .before .before .before .before .before .before .before .before .before .before .before .before .before .before .before .before .before .before .before .before .before .before .before .before .before .before .before .before .before .before .before .check .ensures ∙ checks-are i in
     let e = sym (ap (λ (x : Verdict). x .number) v) ∙ c .before .before .before .before .before .before .before .before .before .before .before .before .before .before .before .before .before .before .before .before .before .before .before .before .before .before .before .before .before .before .before .before .before .before .before .before .before .before .before .before .before .before .before .before .before .before .before .before .if1 .left in
     let z = c .before .before .before .before .before .before .before .before .before .before .before .before .before .before .before .before .before .before .before .before .before .before .before .before .before .before .before .before .before .before .before .before .before .before .before .before .before .before .before .before .before .lay-out .ensures in
-    omega (arith, rows-few i e z (c .before .before .before .before .before .before .before .before .before .before .before .before .before .before .before .before .before .before .before .before .before .before .before .before .before .before .before .if2 .left))
+    last-cell (rows-few i e z (c .before .before .before .before .before .before .before .before .before .before .before .before .before .before .before .before .before .before .before .before .before .before .before .before .before .before .before .if2 .left))
 
 slice-read-t71 : tie.Need-slice-read-t71
 slice-read-t71 c =
@@ -103,7 +102,7 @@ slice-read-t71 c =
     let e = sym (ap (λ (x : Verdict). x .number) v) ∙ c .before .before .before .before .before .before .before .before .before .before .before .before .before .before .before .before .before .before .before .before .before .before .before .before .before .before .before .before .before .before .before .before .before .before .before .before .before .before .before .before .before .before .before .before .before .before .before .before .before .if1 .left in
     let z = c .before .before .before .before .before .before .before .before .before .before .before .before .before .before .before .before .before .before .before .before .before .before .before .before .before .before .before .before .before .before .before .before .before .before .before .before .before .before .before .before .before .before .lay-out .ensures in
     let d = c .before .before .before .before .before .before .before .before .before .before .before .before .before .before .before .before .search .ensures in
-    omega (arith, rows-some i e z (c .before .before .before .before .before .before .before .before .before .before .before .before .before .before .before .before .before .before .before .before .before .before .before .before .before .before .before .before .if2 .left), rows-fit i e z (c .before .before .before .before .before .before .before .before .before .before .before .before .before .before .before .before .before .before .before .before .before .before .before .before .before .before .before .before .if2 .left), d .kept .costs .length-kept)
+    last-in (rows-some i e z (c .before .before .before .before .before .before .before .before .before .before .before .before .before .before .before .before .before .before .before .before .before .before .before .before .before .before .before .before .if2 .left)) (rows-fit i e z (c .before .before .before .before .before .before .before .before .before .before .before .before .before .before .before .before .before .before .before .before .before .before .before .before .before .before .before .before .if2 .left)) (d .kept .costs .length-kept)
 
 same-length-7 : tie.Need-same-length-7
 same-length-7 c = laid-lengths (c .before .before .before .before .before .before .before .before .before .before .before .before .before .before .before .before .before .before .before .before .before .before .before .before .before .before .before .before .before .before .before .before .before .before .before .before .before .before .before .before .before .before .lay-out .ensures) .sets

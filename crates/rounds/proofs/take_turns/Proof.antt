@@ -6,7 +6,7 @@ use Rattle.rules.specs.Query.{graphOf}
 use Rattle.query.specs.Lists.{queryOf}
 use Rattle.turns.specs.Standing.{columns}
 use Rattle.turns.specs.QueueLaws.{stillMet}
-use Rattle.turns.specs.Whose.{LowestLeft}
+use Rattle.crew.specs.Whose.{LowestLeft}
 use Rattle.rounds.specs.Rounds.{Within}
 use Rattle.rounds.specs.RoundLaws.{whose-known, printable-pair, within-board, turned-within, turned-less, closed-between}
 use Rattle.rounds.proofs.take_turns.Statement.{statement}

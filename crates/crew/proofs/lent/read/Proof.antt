@@ -38,10 +38,10 @@ use denote.Triple.Spec.{Meets, tripleOf}
 use denote.Triple.Table.{entered}
 use denote.Triple.Walked.{says, needs, Stays, stay-none, stay-none-slice, walkOf, goes-none, goes-none-slice, Walks, ends-at, walked, walk-meets}
 use denote.Exit.{yes}
-use Rattle.crew.specs.declared.worker.Worker.{Worker}
-use Rattle.crew.specs.Table.{nobody}
-use Rattle.crew.proofs.worker.Worker as T
-use Rattle.crew.proofs.worker.Worker.Laws as T′
+use Rattle.crew.specs.declared.Worker.{Worker}
+use Rattle.crew.specs.Workers.{nobody}
+use Rattle.crew.proofs.Worker as T
+use Rattle.crew.proofs.Worker.Laws as T′
 use Rattle.crew.proofs.Shared.{worker-val, worker-vals, off-fits}
 use Rattle.crew.proofs.lent.read.Key.{name as #crew·lent·read}
 use Rattle.crew.proofs.lent.read as this

@@ -44,11 +44,11 @@ use denote.Triple.Spec.{Meets, tripleOf}
 use denote.Triple.Table.{entered}
 use denote.Triple.Walked.{says, Stays, stay-none-slice, walkOf, goes-none-slice, Walks, ends-at, walked, walk-meets}
 use denote.Exit.{yes}
-use Rattle.crew.specs.declared.worker.Worker.{Worker}
-use Rattle.crew.specs.Table.{nobody, workerAt, NoneLeft, LowestLeft}
-use Rattle.crew.specs.TableLaws.{none-more, lowest-found, lowest-none}
-use Rattle.crew.proofs.worker.Worker as T
-use Rattle.crew.proofs.worker.Worker.Laws as T′
+use Rattle.crew.specs.declared.Worker.{Worker}
+use Rattle.crew.specs.Workers.{nobody, workerAt}
+use Rattle.crew.specs.Whose.{LowestLeft, NoneLeft, none-more, lowest-found, lowest-none}
+use Rattle.crew.proofs.Worker as T
+use Rattle.crew.proofs.Worker.Laws as T′
 use Rattle.crew.proofs.Shared.{is-true, is-false, worker-vals, off-fits}
 use Rattle.crew.proofs.lent.scan.Key.{name as #crew·lent·scan}
 use Rattle.crew.proofs.lent.scan as scan

@@ -42,10 +42,10 @@ use denote.Triple.Table.{entered, cited}
 use denote.Triple.Walked.{says, Stays, stay-none, walkOf, goes-none, Walks, ends-at, walked, walk-meets}
 use denote.Exit.{yes}
 use denote.Triple.Clauses.{ensured, lasts}
-use Rattle.crew.specs.declared.worker.Worker.{Worker}
-use Rattle.crew.specs.Table.{LowestLeft}
-use Rattle.crew.proofs.worker.Worker as T
-use Rattle.crew.proofs.worker.Worker.Laws as T′
+use Rattle.crew.specs.declared.Worker.{Worker}
+use Rattle.crew.specs.Whose.{LowestLeft}
+use Rattle.crew.proofs.Worker as T
+use Rattle.crew.proofs.Worker.Laws as T′
 use Rattle.crew.proofs.Shared.{Eight, eight-val, eight-vals, eight-tells, eight-room, eight-typed, eight-in, eight-out}
 use Rattle.crew.proofs.lent.scan as scan
 use Rattle.crew.proofs.lent.scan.Symbol as scan-def

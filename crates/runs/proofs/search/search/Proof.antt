@@ -9,7 +9,8 @@ use Rattle.memo.specs.Layout.{starts, cellStarts}
 use Rattle.turns.specs.Standing.{columns}
 use Rattle.turns.specs.QueueLaws.{stillMet}
 use Rattle.turns.specs.StartLaws.{Prepared}
-use Rattle.runs.specs.Runs.{logOf, Between, Underway, Carried}
+use Rattle.crew.specs.Logs.{logOf}
+use Rattle.runs.specs.Runs.{Between, Underway, Carried}
 use Rattle.runs.specs.SearchLaws.{scans-fit, between-start, between-end, prepared, nobodies, within-open, within-closed, within-few, within-board, within-ready, whose-known, within-less, carried-start, carried-turn, underway-turn, two-of, size-of, below-eight, below-two, few-pairs, starts-room, size-fits, less-size, all-sizes, laid-length, logged-lengths}
 use Rattle.runs.proofs.search.search.Statement.{statement}
 use Rattle.runs.proofs.search.search.Tie as tie

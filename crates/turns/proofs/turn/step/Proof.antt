@@ -1,10 +1,10 @@
 use mathlib.Core.Path.{refl}
-use native.Mathlib.Omega.{arith}
 use borrow.Author.Tests.{not-true, not-false}
 use Rattle.rules.specs.laws.Bools.{not-both}
+use Rattle.pairs.specs.FitLaws.{cell-fits}
 use Rattle.pairs.specs.GroundLaws.{at-number}
 use Rattle.pairs.specs.PlaceLaws.{memo-few, met-few}
-use Rattle.turns.specs.StepLaws.{set-at, estimate-at, driving-inside, inner-inside, seek-ready, row-inside, estimates-fit, base-fits, handing, step-costs, step-outers, step-methods}
+use Rattle.turns.specs.StepLaws.{set-at, estimate-at, driving-inside, inner-inside, seek-ready, row-inside, estimates-fit, base-fits, handing, step-costs, step-outers, step-methods, row-in, set-fits, costs-fit, size-cell, size-next, next-cell, size-in, next-in, handed-fits}
 use Rattle.turns.proofs.turn.step.Statement.{statement}
 use Rattle.turns.proofs.turn.step.Tie as tie
 
@@ -22,7 +22,7 @@ mul-x c =
     let b = s .pre .0 in
     let r = s .pre .1 in
     let left = not-false _ (c .if1 .left) in
-    omega (arith, driving-inside b r left, memo-few _ (b .graph))
+    cell-fits (driving-inside b r left) (memo-few _ (b .graph))
 
 shared-slice-read-x : tie.Need-shared-slice-read-x
 shared-slice-read-x c =
@@ -38,7 +38,7 @@ mul-y c =
     let b = s .pre .0 in
     let r = s .pre .1 in
     let left = not-false _ (c .before .if1 .left) in
-    omega (arith, inner-inside b r left, memo-few _ (b .graph))
+    cell-fits (inner-inside b r left) (memo-few _ (b .graph))
 
 shared-slice-read-y : tie.Need-shared-slice-read-y
 shared-slice-read-y c =
@@ -52,31 +52,31 @@ mul-seek : tie.Need-mul-seek
 mul-seek c =
     let s = c .before .before .before .before .before .before .before .before .before .before .before .before .before .before .before .before .before .before .before .before .before .before in
     let b = s .pre .0 in
-    omega (arith, b .ground .starts-long, b .known, b .graph .few-tables)
+    size-cell (b .known) (b .graph .few-tables)
 
 shared-slice-read-seek : tie.Need-shared-slice-read-seek
 shared-slice-read-seek c =
     let s = c .before .before .before .before .before .before .before .before .before .before .before .before .before .before .before .before .before .before .before .before .before .before .before in
     let b = s .pre .0 in
-    omega (arith, b .ground .starts-long, b .known, b .graph .few-tables)
+    size-in (b .known) (b .ground .starts-long)
 
 add-seek : tie.Need-add-seek
 add-seek c =
     let s = c .before .before .before .before .before .before .before .before .before .before .before .before .before .before .before .before .before .before .before .before .before .before .before in
     let b = s .pre .0 in
-    omega (arith, b .ground .starts-long, b .known, b .graph .few-tables)
+    size-next (b .known) (b .graph .few-tables)
 
 mul-seek-2 : tie.Need-mul-seek-2
 mul-seek-2 c =
     let s = c .before .before .before .before .before .before .before .before .before .before .before .before .before .before .before .before .before .before .before .before .before .before .before in
     let b = s .pre .0 in
-    omega (arith, b .ground .starts-long, b .known, b .graph .few-tables)
+    next-cell (b .known) (b .graph .few-tables)
 
 shared-slice-read-seek-2 : tie.Need-shared-slice-read-seek-2
 shared-slice-read-seek-2 c =
     let s = c .before .before .before .before .before .before .before .before .before .before .before .before .before .before .before .before .before .before .before .before .before .before .before .before in
     let b = s .pre .0 in
-    omega (arith, b .ground .starts-long, b .known, b .graph .few-tables)
+    next-in (b .known) (b .ground .starts-long)
 
 add-seek-2 : tie.Need-add-seek-2
 add-seek-2 c =
@@ -84,7 +84,7 @@ add-seek-2 c =
     let b = s .pre .0 in
     let r = s .pre .1 in
     let left = not-false _ (c .before .before .before .before .if1 .left) in
-    omega (arith, seek-ready b r left .2)
+    set-fits (seek-ready b r left .2)
 
 seek-requires : tie.Need-seek-requires
 seek-requires c κs =
@@ -100,7 +100,7 @@ mul-price c =
     let b = s .pre .0 in
     let r = s .pre .1 in
     let left = not-false _ (c .before .before .before .before .before .if1 .left) in
-    omega (arith, driving-inside b r left, memo-few _ (b .graph))
+    cell-fits (driving-inside b r left) (memo-few _ (b .graph))
 
 shared-slice-read-price : tie.Need-shared-slice-read-price
 shared-slice-read-price c =
@@ -116,7 +116,7 @@ mul-price-2 c =
     let b = s .pre .0 in
     let r = s .pre .1 in
     let left = not-false _ (c .before .before .before .before .before .before .if1 .left) in
-    omega (arith, inner-inside b r left, memo-few _ (b .graph))
+    cell-fits (inner-inside b r left) (memo-few _ (b .graph))
 
 shared-slice-read-price-2 : tie.Need-shared-slice-read-price-2
 shared-slice-read-price-2 c =
@@ -132,7 +132,7 @@ mul-price-3 c =
     let b = s .pre .0 in
     let r = s .pre .1 in
     let left = not-false _ (c .before .before .before .before .before .before .before .if1 .left) in
-    omega (arith, row-inside b r left _ (c .before .before .seek .ensures), memo-few _ (b .graph))
+    cell-fits (row-inside b r left _ (c .before .before .seek .ensures)) (memo-few _ (b .graph))
 
 shared-slice-read-price-3 : tie.Need-shared-slice-read-price-3
 shared-slice-read-price-3 c =
@@ -148,7 +148,7 @@ mul-price-4 c =
     let b = s .pre .0 in
     let r = s .pre .1 in
     let left = not-false _ (c .before .before .before .before .before .before .before .before .if1 .left) in
-    omega (arith, driving-inside b r left, memo-few _ (b .graph))
+    cell-fits (driving-inside b r left) (memo-few _ (b .graph))
 
 slice-read-price : tie.Need-slice-read-price
 slice-read-price c =
@@ -156,7 +156,7 @@ slice-read-price c =
     let b = s .pre .0 in
     let r = s .pre .1 in
     let left = not-false _ (c .before .before .before .before .before .before .before .before .before .if1 .left) in
-    omega (arith, driving-inside b r left, b .reach .costs)
+    row-in (driving-inside b r left) (b .reach .costs)
 
 mul-price-5 : tie.Need-mul-price-5
 mul-price-5 c =
@@ -164,7 +164,7 @@ mul-price-5 c =
     let b = s .pre .0 in
     let r = s .pre .1 in
     let left = not-false _ (c .before .before .before .before .before .before .before .before .before .if1 .left) in
-    omega (arith, inner-inside b r left, memo-few _ (b .graph))
+    cell-fits (inner-inside b r left) (memo-few _ (b .graph))
 
 slice-read-price-2 : tie.Need-slice-read-price-2
 slice-read-price-2 c =
@@ -172,7 +172,7 @@ slice-read-price-2 c =
     let b = s .pre .0 in
     let r = s .pre .1 in
     let left = not-false _ (c .before .before .before .before .before .before .before .before .before .before .if1 .left) in
-    omega (arith, inner-inside b r left, b .reach .costs)
+    row-in (inner-inside b r left) (b .reach .costs)
 
 add-price : tie.Need-add-price
 add-price c =
@@ -180,7 +180,7 @@ add-price c =
     let b = s .pre .0 in
     let r = s .pre .1 in
     let left = not-false _ (c .before .before .before .before .before .before .before .before .before .before .if1 .left) in
-    omega (arith, base-fits b r left)
+    costs-fit (base-fits b r left)
 
 price-requires : tie.Need-price-requires
 price-requires c κs =
@@ -197,7 +197,7 @@ keep-requires c κs =
     let r = s .pre .1 in
     let left = not-false _ (c .before .before .before .before .before .before .before .before .before .before .before .before .before .before .if1 .left) in
     let l = row-inside b r left _ (c .before .before .before .before .before .before .before .before .before .seek .ensures) in
-    (omega (arith, l, b .reach .costs), omega (arith, l, b .reach .outers), omega (arith, l, b .reach .methods))
+    (row-in l (b .reach .costs), row-in l (b .reach .outers), row-in l (b .reach .methods))
 
 next-pair-requires : tie.Need-next-pair-requires
 next-pair-requires c κs =
@@ -213,7 +213,7 @@ add-t33 c =
     let b = s .pre .0 in
     let r = s .pre .1 in
     let left = not-false _ (c .before .before .before .before .before .before .before .before .before .before .before .before .before .before .before .before .before .before .before .before .before .before .before .if1 .left) in
-    omega (arith, r .handed, b .known, b .graph .few-tables, at-number _ _ _ (r .waits .there left .0) .0, met-few _ (b .graph) _ (b .known))
+    handed-fits (r .handed) (at-number _ _ _ (r .waits .there left .0) .0) (met-few _ (b .graph) _ (b .known)) (b .known) (b .graph .few-tables)
 
 returns-2 : tie.Need-returns-2
 returns-2 c =

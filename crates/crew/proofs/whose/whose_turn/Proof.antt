@@ -1,7 +1,7 @@
 use borrow.Author.Needs.{needs}
-use Rattle.turns.specs.Whose.{whose-listed, whose-lowest}
-use Rattle.turns.proofs.whose.whose_turn.Statement.{statement}
-use Rattle.turns.proofs.whose.whose_turn.Tie as tie
+use Rattle.crew.specs.Whose.{whose-listed, whose-lowest}
+use Rattle.crew.proofs.whose.whose_turn.Statement.{statement}
+use Rattle.crew.proofs.whose.whose_turn.Tie as tie
 
 mul-result : tie.Need-mul-result
 mul-result c = search needs

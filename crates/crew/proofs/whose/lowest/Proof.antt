@@ -1,8 +1,8 @@
 use Prim.Native.Nat.{_-_, _≤_}
 use native.Mathlib.Omega.{arith}
-use Rattle.turns.specs.Whose.{NoneLeft, none-more}
-use Rattle.turns.proofs.whose.lowest.Statement.{statement}
-use Rattle.turns.proofs.whose.lowest.Tie as tie
+use Rattle.crew.specs.Whose.{NoneLeft, none-more}
+use Rattle.crew.proofs.whose.lowest.Statement.{statement}
+use Rattle.crew.proofs.whose.lowest.Tie as tie
 
 abbrev Inv-loop : tie.InvT-loop
 Inv-loop count workers w₀ w = NoneLeft workers w × (w ≤ count)

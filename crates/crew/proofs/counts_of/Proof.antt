@@ -2,10 +2,10 @@ use mathlib.Core.Path.{_≡_, refl, _∙_}
 use Prim.Native.Nat.{_-_, _≤_}
 use native.Mathlib.Omega.{arith}
 use lib.ListN.{length, take, length-set}
-use Rattle.runs.specs.Runs.{countsOf}
-use Rattle.runs.specs.LeafLaws.{counts-more, counts-all}
-use Rattle.runs.proofs.search.counts_of.Statement.{statement}
-use Rattle.runs.proofs.search.counts_of.Tie as tie
+use Rattle.crew.specs.Workers.{countsOf}
+use Rattle.crew.specs.LeafLaws.{counts-more, counts-all}
+use Rattle.crew.proofs.counts_of.Statement.{statement}
+use Rattle.crew.proofs.counts_of.Tie as tie
 
 abbrev Inv-loop : tie.InvT-loop
 Inv-loop workers counts₀ w₀ counts w = (w ≤ 8) × (length counts ≡ 8) × (take w counts ≡ countsOf (take w workers))

@@ -3,8 +3,8 @@
 ghost use mathlib.Core.Path.{_≡_};
 ghost use Prim.Native.Nat.{_≤_};
 ghost use Rattle.rules.specs.Limits.{maxWorkers};
-ghost use Rattle.turns.specs.Whose.{LowestLeft, whose, entriesOn};
-use super::turn::Worker;
+ghost use Rattle.crew.specs.Whose.{LowestLeft, whose, entriesOn};
+use super::Worker;
 
 // The lowest of `count` workers with a pair left, or `count`.
 pub fn lowest(workers: [Worker; 8], count: usize) -> usize

@@ -3,10 +3,10 @@ use mathlib.Core.Logic.{⊎-elim}
 use borrow.Author.Needs.{needs}
 use borrow.Author.Tests.{not-true, not-false}
 use lib.ListN.{length, length-set}
-use Rattle.runs.specs.Runs.{logOf, noted, SameLog}
-use Rattle.runs.specs.LeafLaws.{noted-full, note-none, note-some}
-use Rattle.runs.proofs.log.note.Statement.{statement}
-use Rattle.runs.proofs.log.note.Tie as tie
+use Rattle.crew.specs.Logs.{logOf, noted, SameLog}
+use Rattle.crew.specs.LeafLaws.{noted-full, note-none, note-some}
+use Rattle.crew.proofs.log.note.Statement.{statement}
+use Rattle.crew.proofs.log.note.Tie as tie
 
 -- the log with its entry, where there is room for it
 entry : (c : tie.Joined2) → let a = c .before .before .before .args in SameLog (logOf (c .if2 .workers) (c .if2 .driving) (c .if2 .inner) (c .if2 .costs)) (noted (logOf (a .workers .now) (a .driving .now) (a .inner .now) (a .costs .now)) (a .at) (a .worker) (a .pair))

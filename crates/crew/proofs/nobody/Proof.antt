@@ -1,7 +1,7 @@
 use mathlib.Core.Path.{refl}
 use borrow.Author.Needs.{needs}
-use Rattle.turns.proofs.turn.nobody.Statement.{statement}
-use Rattle.turns.proofs.turn.nobody.Tie as tie
+use Rattle.crew.proofs.nobody.Statement.{statement}
+use Rattle.crew.proofs.nobody.Tie as tie
 
 nowhere-requires : tie.Need-nowhere-requires
 nowhere-requires c κs = search needs

@@ -1,7 +1,7 @@
 use borrow.Author.Needs.{needs}
-use Rattle.turns.specs.Whose.{entries-more, entries-same}
-use Rattle.turns.proofs.whose.entries_on.Statement.{statement}
-use Rattle.turns.proofs.whose.entries_on.Tie as tie
+use Rattle.crew.specs.Whose.{entries-more, entries-same}
+use Rattle.crew.proofs.whose.entries_on.Statement.{statement}
+use Rattle.crew.proofs.whose.entries_on.Tie as tie
 
 add-result : tie.Need-add-result
 add-result c = search needs

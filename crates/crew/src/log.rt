@@ -2,8 +2,8 @@
 ghost use mathlib.Core.Path.{_≡_};
 ghost use Prim.Native.Nat.{_^_, _<_};
 ghost use lib.ListN.{length};
-ghost use Rattle.runs.specs.Runs.{logOf, notedIf, countIf};
-use turns::turn::Handed;
+ghost use Rattle.crew.specs.Logs.{logOf, notedIf, countIf};
+use super::Handed;
 
 // Notes a turn's pair as entry `at` where one was handed and the log has room for it; how many pairs are handed then.
 pub fn note(

@@ -7,10 +7,10 @@ use native.Mathlib.Omega.{arith}
 use lib.ListN.{length, set, take}
 use lib.Seq.{take-all, take-suc, take-suc-set, set-out}
 use Rattle.rules.specs.Refusals.{Memory}
-use Rattle.turns.specs.declared.turn.Worker.{Worker}
-use Rattle.turns.specs.declared.turn.Handed as code
-use Rattle.turns.specs.Standing.{nobody, workerAt}
-use Rattle.runs.specs.Runs.{logOf, noted, SameLog, notedIf, countIf, LogFits, countsOf}
+use Rattle.crew.specs.declared.Worker.{Worker}
+use Rattle.crew.specs.declared.Handed as code
+use Rattle.crew.specs.Workers.{nobody, workerAt, countsOf}
+use Rattle.crew.specs.Logs.{logOf, noted, SameLog, notedIf, countIf, LogFits}
 
 -- ---- the log
 -- without room for an entry it stays
