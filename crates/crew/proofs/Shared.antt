@@ -45,8 +45,12 @@ worker-val = LL.val T.the-type T′.the-laws
 abbrev pub worker-vals : Worker → List Val
 worker-vals = LL.vals T.the-type T′.the-laws
 
+-- how many bytes it has in memory
+abbrev pub worker-bytes : ℕ
+worker-bytes = 104
+
 -- the byte offset of worker i fits
-pub off-fits : (n i : ℕ) → Room T.the-row n → i < n → i * 104 < 2 ^ 64
+pub off-fits : (n i : ℕ) → Room T.the-row n → i < n → i * worker-bytes < 2 ^ 64
 off-fits n i room l = omega (arith, l, room .1)
 
 -- ---- the table of eight

@@ -1,4 +1,4 @@
-// The table lent as a slice. Proved by walks of their code.
+// The workers' table lent as a slice. A reference to structs is proved by a walk (docs/PROVING.md): all others call `table`, by value.
 ghost use mathlib.Core.Path.{_≡_};
 ghost use Prim.Native.Nat.{_<_};
 ghost use lib.ListN.{length, set};

@@ -1,13 +1,13 @@
-// The table by value, lent for one call: these three make the reference, so that no caller of theirs has one.
+// The workers' table by value, lent for one call. These three make the reference, and are walks too; their callers have none.
 ghost use mathlib.Core.Path.{_≡_};
 ghost use Prim.Native.Nat.{_<_};
 ghost use lib.ListN.{set};
 ghost use Rattle.crew.specs.Workers.{workerAt};
 ghost use Rattle.crew.specs.Whose.{LowestLeft};
+use super::Worker;
 use super::lent::read;
 use super::lent::scan;
 use super::lent::store;
-use super::Worker;
 
 // The lowest of eight workers with a pair left, or eight.
 pub fn lowest_left(workers: [Worker; 8]) -> usize

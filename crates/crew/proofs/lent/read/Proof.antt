@@ -42,7 +42,7 @@ use Rattle.crew.specs.declared.Worker.{Worker}
 use Rattle.crew.specs.Workers.{nobody}
 use Rattle.crew.proofs.Worker as T
 use Rattle.crew.proofs.Worker.Laws as T′
-use Rattle.crew.proofs.Shared.{worker-val, worker-vals, off-fits}
+use Rattle.crew.proofs.Shared.{worker-val, worker-vals, worker-bytes, off-fits}
 use Rattle.crew.proofs.lent.read.Key.{name as #crew·lent·read}
 use Rattle.crew.proofs.lent.read as this
 use Rattle.crew.proofs.lent.read.Statement as stated
@@ -94,7 +94,7 @@ module _ {M : Type 1} (𝓤 : URA M) (H : Heap 𝓤) (A : Atoms 𝓤) (W : Given
         -- [_5; …; _4; …; _3; …; _2; …; _1; …; room for _0; …; the token; what the parameters own]
         assigns ! (bin ! (load ! (from ! (stop !)) (look ! 6 refl)) (lit ! tt) (record { fits = off-fits n i room within })) (from ! (stop !)) (init ! 4 refl (tt, record { fits = off-fits n i room within })) $
         assigns ! (bin ! (load ! (from ! (fld ! refl (stop !))) (look-in ! 8 (sub ! 0 refl (whole !)))) (load ! (from ! (stop !)) (look ! 4 refl)) tt) (from ! (stop !)) (init ! 2 refl (tt, tt)) $
-        rewrite ! 2 (λ (k : ℕ). ‵ (fat fullShare tyPtr l₄ 0 (vptr b k))) (sym (place-is 104 o i)) refl $
+        rewrite ! 2 (λ (k : ℕ). ‵ (fat fullShare tyPtr l₄ 0 (vptr b k))) (sym (place-is worker-bytes o i)) refl $
         move ! (13 ∷ []) $ fsplit ! $ fsplit ! $ drop ! $ fsplit ! $ move ! (15 ∷ []) $ split ! $ move ! (3 ∷ 0 ∷ []) $
         looks-slice ! tt T.the-row (Is T.the-row) (shows 𝓤 H A T.the-row) worker-vals (LL.tells T.the-type T′.the-laws) (LL.copy T.the-type T′.the-copy 𝓤 H A W) ys b o (λ q′.
         elem-out ! T.the-row (Is T.the-row) (shows 𝓤 H A T.the-row) worker-vals (LL.tells T.the-type T′.the-laws) q′ ys i nobody b o within (λ is.

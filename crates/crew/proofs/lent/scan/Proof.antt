@@ -49,7 +49,7 @@ use Rattle.crew.specs.Workers.{nobody, workerAt}
 use Rattle.crew.specs.Whose.{LowestLeft, NoneLeft, none-more, lowest-found, lowest-none}
 use Rattle.crew.proofs.Worker as T
 use Rattle.crew.proofs.Worker.Laws as T′
-use Rattle.crew.proofs.Shared.{is-true, is-false, worker-vals, off-fits}
+use Rattle.crew.proofs.Shared.{is-true, is-false, worker-vals, worker-bytes, off-fits}
 use Rattle.crew.proofs.lent.scan.Key.{name as #crew·lent·scan}
 use Rattle.crew.proofs.lent.scan as scan
 use Rattle.crew.proofs.lent.scan.Statement as stated
@@ -167,7 +167,7 @@ module _ {M : Type 1} (𝓤 : URA M) (H : Heap 𝓤) (A : Atoms 𝓤) (W : Given
         (λ less. skips ! $ exec ! C Λ E body (anyQ (Turned i)) $
         assigns ! (bin ! (load ! (from ! (stop !)) (look ! 12 refl)) (lit ! tt) (record { fits = off-fits n (i .0) room (ltb→lt (i .0) n less) })) (from ! (stop !)) (store ! 10 refl (tt, record { fits = off-fits n (i .0) room (ltb→lt (i .0) n less) })) $
         assigns ! (bin ! (load ! (from ! (fld ! refl (stop !))) (look-in ! 14 (sub ! 0 refl (whole !)))) (load ! (from ! (stop !)) (look ! 10 refl)) tt) (from ! (stop !)) (init ! 6 refl (tt, tt)) $
-        rewrite ! 6 (λ (p : ℕ). ‵ (fat fullShare tyPtr l₅ 0 (vptr b p))) (sym (place-is 104 o (i .0))) refl $
+        rewrite ! 6 (λ (p : ℕ). ‵ (fat fullShare tyPtr l₅ 0 (vptr b p))) (sym (place-is worker-bytes o (i .0))) refl $
         elem-out ! T.the-row (Is T.the-row) (shows 𝓤 H A T.the-row) worker-vals (LL.tells T.the-type T′.the-laws) q′ ys (i .0) nobody b o (ltb→lt (i .0) n less) (λ g.
         -- [ws[i]; what it owns; the others; the open borrow at 3; … ; _5 at 8; _4 at 10; _3 at 12; _2 at 14; _1 at 16; _0 at 18]
         assigns ! (of-opd ! (load ! (from ! (hop ! (look ! 8 refl) (fld ! refl (fld ! refl (stop !))))) (look-in ! 0 (sub ! 0 refl (sub ! 1 refl (whole !)))))) (from ! (stop !)) (store ! 10 refl (tt, tt)) $
@@ -194,6 +194,8 @@ module _ {M : Type 1} (𝓤 : URA M) (H : Heap 𝓤) (A : Atoms 𝓤) (W : Given
       assigns ! (of-opd ! (lit ! tt)) (from ! (stop !)) (init ! 6 refl (tt, record { fits = lit< tt })) $
       move ! (13 ∷ []) $ fsplit ! $ fsplit ! $ drop ! $ fsplit ! $ move ! (15 ∷ []) $ split ! $ move ! (3 ∷ 0 ∷ []) $
       looks-slice ! tt T.the-row (Is T.the-row) (shows 𝓤 H A T.the-row) worker-vals (LL.tells T.the-type T′.the-laws) (LL.copy T.the-type T′.the-copy 𝓤 H A W) ys b o (λ q′.
+      -- the scan begins at worker 0
+      rewrite ! 12 (λ (k : ℕ). ‵ (fat fullShare word l₂ 0 (vint w64 k))) (refl {a = 0}) refl $
       first ! $ blocks ! $ loops ! 𝓣 Nearer Nearer-wf (At 𝓣 q′ l₀ l₁ l₂ l₃ l₄ l₅) (turns 𝓣 q′ l₀ l₁ l₂ l₃ l₄ l₅) (0, (zero-le, λ k h. absurd (not-suc-le-zero h))))))))))
 
 module _ {M : Type 1} (𝓤 : URA M) (H : Heap 𝓤) (A : Atoms 𝓤) (W : Given 𝓤 H A) (memory : Memory → SProp 𝓤) (run : Routine → Fun 𝓤) (𝓣 : Tables 𝓤 H) where

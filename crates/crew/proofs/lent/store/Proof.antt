@@ -41,7 +41,7 @@ use Rattle.crew.specs.declared.Worker.{Worker}
 use Rattle.crew.specs.Workers.{nobody}
 use Rattle.crew.proofs.Worker as T
 use Rattle.crew.proofs.Worker.Laws as T′
-use Rattle.crew.proofs.Shared.{worker-val, worker-vals, off-fits}
+use Rattle.crew.proofs.Shared.{worker-val, worker-vals, worker-bytes, off-fits}
 use Rattle.crew.proofs.lent.store.Key.{name as #crew·lent·store}
 use Rattle.crew.proofs.lent.store as this
 use Rattle.crew.proofs.lent.store.Statement as stated
@@ -93,7 +93,7 @@ module _ {M : Type 1} (𝓤 : URA M) (H : Heap 𝓤) (A : Atoms 𝓤) (W : Given
         -- [_5; …; _4; …; _3; …; _2; …; _1; …; room for _0; …; the token; what the parameters own]
         assigns ! (bin ! (load ! (from ! (stop !)) (look ! 6 refl)) (lit ! tt) (record { fits = off-fits n i room within })) (from ! (stop !)) (init ! 2 refl (tt, record { fits = off-fits n i room within })) $
         assigns ! (bin ! (load ! (from ! (fld ! refl (stop !))) (look-in ! 8 (sub ! 0 refl (whole !)))) (load ! (from ! (stop !)) (look ! 2 refl)) tt) (from ! (stop !)) (init ! 0 refl (tt, tt)) $
-        rewrite ! 0 (λ (k : ℕ). ‵ (fat fullShare tyPtr l₅ 0 (vptr b k))) (sym (place-is 104 o i)) refl $
+        rewrite ! 0 (λ (k : ℕ). ‵ (fat fullShare tyPtr l₅ 0 (vptr b k))) (sym (place-is worker-bytes o i)) refl $
         move ! (13 ∷ []) $ fsplit ! $ fsplit ! $ drop ! $ fsplit ! $ move ! (15 ∷ []) $ split ! $ move ! (2 ∷ 3 ∷ 0 ∷ []) $
         opens-slice ! tt T.the-row ys b o $ elem-out ! T.the-row (Is T.the-row) (shows 𝓤 H A T.the-row) worker-vals (LL.tells T.the-type T′.the-laws) fullShare ys i nobody b o within (λ was.
         -- [ws[i]; what it owns; the others; the open borrow; obs; auth; true; the numbers' facts; _5 at 8; _4 at 10; _3 at 12; _2 at 14; _1 at 16; room for _0 at 18]
