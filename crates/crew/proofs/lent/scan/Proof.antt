@@ -65,7 +65,7 @@ word = tyInt w64
 abbrev slice : Ty
 slice = sliceTy (tyRef (named 0) imm (pointee (T.the-row .written)))
 
--- what follows the first statement of a piece of code, and what follows the first k
+-- what follows the first statement of a piece of code
 abbrev rest : Body → Body
 rest (seq a c) = c
 rest skip = skip
@@ -113,7 +113,7 @@ module _ {M : Type 1} (𝓤 : URA M) (H : Heap 𝓤) (A : Atoms 𝓤) (W : Given
       fjoin ! $ pureI ! (at-slice T.the-row x (sliceVal (b, o) n ∷ [])) (tt, (tt, tt)) (refl, room) $ fjoin ! $ nothing ! $ move ! (1 ∷ 0 ∷ []) $ fjoin ! $ frame ! $
       owned ! usize (Is usize) (uint-makes 𝓤 H A W w64) i _ (refl, g) $ done !
 
-  -- where the loop stands: at i, with no ready worker before it
+  -- where the loop stands: at worker i, and none before it has a pair left
   abbrev Upto : Type 0
   Upto = (i : ℕ) × ((i ≤ n) × NoneLeft ys i)
 
