@@ -33,12 +33,12 @@ note-some workers driving inner costs log j w p e s = rw (e, s .workers, s .driv
 
 -- ---- counts
 -- one more is stored
-pub counts-more : (workers : List Worker) (counts : List ℕ) (w : ℕ) → w < length workers → length counts ≡ length workers
-    → take w counts ≡ countsOf (take w workers) → take (w + 1) (set counts w (workerAt workers w .handed)) ≡ countsOf (take (w + 1) workers)
-counts-more workers counts w l e h =
+pub counts-more : (workers : List Worker) (counts : List ℕ) (w : ℕ) (x : Worker) → w < length workers → length counts ≡ length workers → x ≡ workerAt workers w
+    → take w counts ≡ countsOf (take w workers) → take (w + 1) (set counts w (x .handed)) ≡ countsOf (take (w + 1) workers)
+counts-more workers counts w x l e f h =
     let n : w + 1 ≡ suc w = omega arith in
-    let x = workerAt workers w in
-    rw (n, take-suc-set counts w (x .handed) (omega arith), take-suc workers w nobody l, map-append (λ (v : Worker). v .handed) (take w workers) (x ∷ []), h) refl
+    let y = workerAt workers w in
+    rw (f, n, take-suc-set counts w (y .handed) (omega arith), take-suc workers w nobody l, map-append (λ (v : Worker). v .handed) (take w workers) (y ∷ []), h) refl
 
 -- all are stored
 pub counts-all : (workers : List Worker) (counts : List ℕ) (w : ℕ) → length workers ≤ w → length counts ≡ length workers → take w counts ≡ countsOf (take w workers) → counts ≡ countsOf workers

@@ -5,8 +5,11 @@ use rules::Scheme;
 use shares::Share;
 use shares::places::Place;
 use shares::places::nowhere;
+use table::worker_at;
 
+pub mod lent;
 pub mod log;
+pub mod table;
 pub mod whose;
 
 // A worker of the table: its share of the size, its place, the memo row of its last result, how many pairs it was handed.
@@ -51,7 +54,7 @@ pub fn counts_of(workers: [Worker; 8]) -> [u64; 8]
 {
     let mut counts = [0u64; 8];
     for w in 0..8usize {
-        let worker = workers[w];
+        let worker = worker_at(workers, w);
         counts[w] = worker.handed;
     }
     counts

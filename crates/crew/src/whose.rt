@@ -5,22 +5,18 @@ ghost use Prim.Native.Nat.{_≤_};
 ghost use Rattle.rules.specs.Limits.{maxWorkers};
 ghost use Rattle.crew.specs.Whose.{LowestLeft, whose, entriesOn};
 use super::Worker;
+use super::table::lowest_left;
 
 // The lowest of `count` workers with a pair left, or `count`.
 pub fn lowest(workers: [Worker; 8], count: usize) -> usize
     requires { ⌜ count ≤ maxWorkers ⌝ }
     ensures { λ r. ⌜ LowestLeft workers count r ⌝ }
 {
-    let mut w = 0usize;
-    while w < count {
-        let worker = workers[w];
-        let place = worker.place;
-        if place.left {
-            break;
-        }
-        w += 1;
+    let low = lowest_left(workers);
+    if low < count {
+        return low;
     }
-    w
+    count
 }
 
 // The worker that entry `at` of the list names, or, where the list is used up, `low`.

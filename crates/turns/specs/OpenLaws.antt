@@ -29,10 +29,10 @@ module _ (g : Graph) (s : ℕ) (scheme : Scheme) (m : ℕ) (old : List Worker) w
   pub opening-none : Opening g s scheme m 0 old old
   opening-none = record { length-kept = refl; first = λ w l. absurd (omega arith); worker = λ w l. absurd (omega arith); others = λ w l. refl }
 
-  -- one more worker at its first pair
-  pub opening-more : {new : List Worker} (k : ℕ) (h : Share) (p : Place) (from : ℕ) → Opening g s scheme m k old new → k < length old → h ≡ shareOf scheme m k (length (met g s)) → NextFrom g s h 0 p → from ≡ startOf g s
+  -- one more worker at its first pair, set in place
+  opening-set : {new : List Worker} (k : ℕ) (h : Share) (p : Place) (from : ℕ) → Opening g s scheme m k old new → k < length old → h ≡ shareOf scheme m k (length (met g s)) → NextFrom g s h 0 p → from ≡ startOf g s
       → Opening g s scheme m (k + 1) old (set new k (record { share = h; place = p; last = from; handed = workerAt new k .handed }))
-  opening-more {new} k h p from z l e n f = record {
+  opening-set {new} k h p from z l e n f = record {
     length-kept = length-set new k v ∙ z .length-kept;
     first = λ w u. first w u (ℕ-discrete w k);
     worker = λ w u. worker w u (ℕ-discrete w k);
@@ -53,3 +53,8 @@ module _ (g : Graph) (s : ℕ) (scheme : Scheme) (m : ℕ) (old : List Worker) w
           → workerAt (set new k v) w ≡ record { share = shareOf scheme m w (length (met g s)); place = workerAt (set new k v) w .place; last = startOf g s; handed = workerAt old w .handed }
       worker w u (yes q) = rw (q, here) (λ t. record { share = e t; place = p; last = f t; handed = ap (λ (x : Worker). x .handed) (z .others k (omega arith)) t })
       worker w u (no q) = rw (getD-set-other new k w v nobody q) (z .worker w (omega arith))
+
+  -- one more worker at its first pair, read and stored
+  pub opening-more : {new : List Worker} (k : ℕ) (h : Share) (p : Place) (from : ℕ) (v : Worker) (next : List Worker) → v ≡ workerAt new k → next ≡ set new k (record { share = h; place = p; last = from; handed = v .handed })
+      → Opening g s scheme m k old new → k < length old → h ≡ shareOf scheme m k (length (met g s)) → NextFrom g s h 0 p → from ≡ startOf g s → Opening g s scheme m (k + 1) old next
+  opening-more k h p from v next i r z l e n f = rw (r, i) (opening-set k h p from z l e n f)

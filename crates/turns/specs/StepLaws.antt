@@ -202,12 +202,16 @@ module _ {g : Graph} {fixed outer inner result : List ℕ} {s : ℕ} {v v′ : W
   pub step-methods : length (new .methods) ≡ length (old .methods)
   step-methods = step-kept (λ c. c .methods) (λ r k. length-set (old .methods) r (k .method))
 
+-- the worker that is read is ready
+pub ready-read : {g : Graph} {s : ℕ} (workers : List Worker) (w : ℕ) (v : Worker) → v ≡ workerAt workers w → Ready g s (workerAt workers w) → Ready g s v
+ready-read workers w v e z = rw e z
+
 -- one worker's turn, and no other worker moves
-pub turn-of : {g : Graph} {fixed outer inner result : List ℕ} {s : ℕ} {v′ : Worker} {old new : Columns} {pair : code.Handed} (workers : List Worker) (w : ℕ) → w < length workers
-    → StepTaken g fixed outer inner result s (workerAt workers w) v′ old new pair → TurnTaken g fixed outer inner result s w workers (set workers w v′) old new pair
-turn-of {v′ = v′} workers w l t =
+pub turn-of : {g : Graph} {fixed outer inner result : List ℕ} {s : ℕ} {old new : Columns} {pair : code.Handed} (workers : List Worker) (w : ℕ) (v v′ : Worker) (workers′ : List Worker) → w < length workers
+    → v ≡ workerAt workers w → workers′ ≡ set workers w v′ → StepTaken g fixed outer inner result s v v′ old new pair → TurnTaken g fixed outer inner result s w workers workers′ old new pair
+turn-of workers w v v′ workers′ l i f t =
     let e : workerAt (set workers w v′) w ≡ v′ = getD-set-same workers w v′ nobody l in
-    record { step = rw e t; others = ap (set workers w) (sym e) }
+    rw f (record { step = rw (e, ← i) t; others = ap (set workers w) (sym e) })
 
 -- ---- the arithmetic of a turn, over plain numbers: omega at a place deep in the code reads every record on the way to it
 pub row-in : {i n m : ℕ} → i < n → n ≤ m → i < m

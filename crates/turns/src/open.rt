@@ -7,6 +7,8 @@ ghost use Rattle.rules.specs.Checked.{GoodGraph};
 ghost use Rattle.pairs.specs.Places.{Ground};
 ghost use Rattle.turns.specs.Standing.{Opened};
 use crew::Worker;
+use crew::table::with_worker;
+use crew::table::worker_at;
 use pairs::find::count_candidates;
 use pairs::find::first_pair;
 use rules::Scheme;
@@ -35,8 +37,8 @@ pub fn open(
     let mut next = workers;
     for w in 0..count {
         let share = share_of(scheme, count, w, total);
-        let old = next[w];
-        next[w] = Worker {
+        let old = worker_at(next, w);
+        let placed = Worker {
             share: share,
             place: first_pair(
                 rows,
@@ -53,6 +55,8 @@ pub fn open(
             last: starts[s],
             handed: old.handed,
         };
+        let opened = with_worker(next, w, placed);
+        next = opened;
     }
     next
 }

@@ -6,6 +6,8 @@ ghost use Rattle.turns.specs.Standing.{columns, Board, Ready, noPair, St
 ghost use Rattle.crew.specs.Workers.{workerAt};
 use crew::Handed;
 use crew::Worker;
+use crew::table::with_worker;
+use crew::table::worker_at;
 use pairs::find::next_pair;
 use results::keep::keep;
 use results::price::price;
@@ -140,7 +142,7 @@ pub fn turn(
     requires { ⌜ (w < 8) × Ready (graphOf (now rows) (now left) (now right) (now divisors)) s (workerAt workers w) ⌝ }
     ensures { λ r. ⌜ TurnTaken (graphOf (now (rows .entry)) (now (left .entry)) (now (right .entry)) (now (divisors .entry))) (now (fixed .entry)) (now (outer .entry)) (now (inner .entry)) (now (result .entry)) s w workers (r .workers) (columns (now (costs .entry)) (now (outers .entry)) (now (methods .entry))) (columns (now (costs .exit)) (now (outers .exit)) (now (methods .exit))) (r .pair) ⌝ }
 {
-    let worker = workers[w];
+    let worker = worker_at(workers, w);
     let stepped = step(
         rows,
         left,
@@ -163,8 +165,7 @@ pub fn turn(
     );
     let moved = stepped.worker;
     let pair = stepped.pair;
-    let mut next = workers;
-    next[w] = moved;
+    let next = with_worker(workers, w, moved);
     Turned {
         workers: next,
         pair: pair,

@@ -16,11 +16,8 @@ abbrev μ-loop : tie.MeasureT-loop
 loop-holds : tie.Need-loop-holds Inv-loop μ-loop
 loop-holds c = (omega arith, omega arith, refl)
 
-mul-worker : tie.Need-mul-worker Inv-loop μ-loop
-mul-worker c = omega arith
-
-array-copy-out-worker : tie.Need-array-copy-out-worker Inv-loop μ-loop
-array-copy-out-worker c = omega arith
+worker-at-requires : tie.Need-worker-at-requires Inv-loop μ-loop
+worker-at-requires c κs = omega arith
 
 mul-counts : tie.Need-mul-counts Inv-loop μ-loop
 mul-counts c = omega arith
@@ -37,12 +34,12 @@ loop-less c = omega arith
 loop-again : tie.Need-loop-again Inv-loop μ-loop
 loop-again c =
     let l = c .before .before .loop in
-    (omega arith, length-set (l .counts) (l .w) _ ∙ l .inv .1, counts-more (c .before .before .before .args .t1) (l .counts) (l .w) (omega arith) (omega arith) (l .inv .2))
+    (omega arith, length-set (l .counts) (l .w) _ ∙ l .inv .1, counts-more (c .before .before .before .args .workers) (l .counts) (l .w) (c .worker-at .result) (omega arith) (omega arith) (c .worker-at .ensures) (l .inv .2))
 
 returns : tie.Need-returns Inv-loop μ-loop
 returns c =
     let l = c .before .loop in
-    counts-all (c .before .before .args .t1) (l .counts) (l .w) (omega arith) (omega arith) (l .inv .2)
+    counts-all (c .before .before .args .workers) (l .counts) (l .w) (omega arith) (omega arith) (l .inv .2)
 
 pub counts-of-spec : {M : Type 1} → statement M
 counts-of-spec =
@@ -51,8 +48,7 @@ counts-of-spec =
     Inv-loop
     μ-loop
     loop-holds
-    mul-worker
-    array-copy-out-worker
+    worker-at-requires
     mul-counts
     array-write-counts
     add-w

@@ -37,17 +37,10 @@ share-of-requires c κs =
     let e = c .before .before .count-candidates .ensures ∙ count-met g (s .args .sets .now) (s .args .skips .now) (s .args .starts .now) (s .args .cells .now) (s .pre .0 .1) (s .args .s) (s .pre .1 .1) in
     (s .pre .1 .2, omega arith, s .pre .1 .3, omega (arith, e, met-few g (s .pre .0 .0) (s .args .s) (s .pre .1 .1)))
 
-mul-old : tie.Need-mul-old Inv-loop μ-loop
-mul-old c =
+worker-at-requires : tie.Need-worker-at-requires Inv-loop μ-loop
+worker-at-requires c κs =
     let s = c .before .before .before .before .before .before .before .before .before .before .before .before in
-    let l = c .before .before .loop in
-    omega (arith, l .inv .1, l .inv .2 .length-kept, s .pre .1 .3, c .before .loop-test .taken)
-
-array-copy-out-old : tie.Need-array-copy-out-old Inv-loop μ-loop
-array-copy-out-old c =
-    let s = c .before .before .before .before .before .before .before .before .before .before .before .before in
-    let l = c .before .before .loop in
-    omega (arith, l .inv .1, l .inv .2 .length-kept, s .pre .1 .3, c .before .loop-test .taken)
+    omega (arith, s .pre .1 .3, c .before .loop-test .taken)
 
 first-pair-requires : tie.Need-first-pair-requires Inv-loop μ-loop
 first-pair-requires c κs =
@@ -56,31 +49,24 @@ first-pair-requires c κs =
     let h = share-is g (s .args .s) (s .args .scheme) (s .args .count) _ (c .before .before .before .before .count-candidates .ensures ∙ count-met g (s .args .sets .now) (s .args .skips .now) (s .args .starts .now) (s .args .cells .now) (s .pre .0 .1) (s .args .s) (s .pre .1 .1)) (c .before .share-of .ensures) in
     (s .pre .0 .0, (s .pre .0 .1, (share-ready g (s .args .s) (s .args .scheme) (s .args .count) _ (s .pre .1 .2) (s .pre .1 .3) (omega arith) h, s .pre .1 .0, s .pre .1 .1)))
 
-mul-t19 : tie.Need-mul-t19 Inv-loop μ-loop
-mul-t19 c =
+mul-t22 : tie.Need-mul-t22 Inv-loop μ-loop
+mul-t22 c =
     let s = c .before .before .before .before .before .before .before .before .before .before .before .before .before .before in
     omega (arith, s .pre .0 .1 .starts-long, s .pre .0 .0 .few-tables, s .pre .1 .1)
 
-shared-slice-read-t25 : tie.Need-shared-slice-read-t25 Inv-loop μ-loop
-shared-slice-read-t25 c =
+shared-slice-read-t24 : tie.Need-shared-slice-read-t24 Inv-loop μ-loop
+shared-slice-read-t24 c =
     let s = c .before .before .before .before .before .before .before .before .before .before .before .before .before .before .before in
     omega (arith, s .pre .0 .1 .starts-long, s .pre .0 .0 .few-tables, s .pre .1 .1)
 
-mul-next : tie.Need-mul-next Inv-loop μ-loop
-mul-next c =
+with-worker-requires : tie.Need-with-worker-requires Inv-loop μ-loop
+with-worker-requires c κs =
     let s = c .before .before .before .before .before .before .before .before .before .before .before .before .before .before .before in
-    let l = c .before .before .before .before .before .loop in
-    omega (arith, l .inv .1, l .inv .2 .length-kept, s .pre .1 .3, c .before .before .before .before .loop-test .taken)
-
-array-set-from-next : tie.Need-array-set-from-next Inv-loop μ-loop
-array-set-from-next c =
-    let s = c .before .before .before .before .before .before .before .before .before .before .before .before .before .before .before in
-    let l = c .before .before .before .before .before .loop in
-    omega (arith, l .inv .1, l .inv .2 .length-kept, s .pre .1 .3, c .before .before .before .before .loop-test .taken)
+    omega (arith, s .pre .1 .3, c .before .before .before .before .loop-test .taken)
 
 add-w : tie.Need-add-w Inv-loop μ-loop
 add-w c =
-    let s = c .before .before .before .before .before .before .before .before .before .before .before .before .before .before .before in
+    let s = c .before .before .before .before .before .before .before .before .before .before .before .before .before .before .before .before in
     omega (arith, s .pre .1 .3)
 
 loop-less : tie.Need-loop-less Inv-loop μ-loop
@@ -88,13 +74,14 @@ loop-less c = omega arith
 
 loop-again : tie.Need-loop-again Inv-loop μ-loop
 loop-again c =
-    let s = c .before .before .before .before .before .before .before .before .before .before .before .before .before .before .before in
+    let s = c .before .before .before .before .before .before .before .before .before .before .before .before .before .before .before .before in
     let g = graphOf (s .args .rows .now) (s .args .left .now) (s .args .right .now) (s .args .divisors .now) in
-    let l = c .before .before .before .before .before .loop in
-    let h = share-is g (s .args .s) (s .args .scheme) (s .args .count) (l .w) (c .before .before .before .before .before .before .count-candidates .ensures ∙ count-met g (s .args .sets .now) (s .args .skips .now) (s .args .starts .now) (s .args .cells .now) (s .pre .0 .1) (s .args .s) (s .pre .1 .1)) (c .before .before .before .share-of .ensures) in (
+    let l = c .before .before .before .before .before .before .loop in
+    let r = c .before .before .before .worker-at in
+    let h = share-is g (s .args .s) (s .args .scheme) (s .args .count) (l .w) (c .before .before .before .before .before .before .before .count-candidates .ensures ∙ count-met g (s .args .sets .now) (s .args .skips .now) (s .args .starts .now) (s .args .cells .now) (s .pre .0 .1) (s .args .s) (s .pre .1 .1)) (c .before .before .before .before .share-of .ensures) in (
       omega arith,
       l .inv .1,
-      opening-more g (s .args .s) (s .args .scheme) (s .args .count) _ (l .w) _ _ _ (l .inv .2) (omega (arith, l .inv .1, s .pre .1 .3)) h (c .before .first-pair .ensures) (s .pre .0 .1 .starts-known (s .args .s) (omega arith) (omega (arith, s .pre .1 .1))),
+      opening-more g (s .args .s) (s .args .scheme) (s .args .count) _ (l .w) _ _ _ (r .result) (c .with-worker .result) (r .ensures) (c .with-worker .ensures) (l .inv .2) (omega (arith, l .inv .1, s .pre .1 .3)) h (c .before .before .first-pair .ensures) (s .pre .0 .1 .starts-known (s .args .s) (omega arith) (omega (arith, s .pre .1 .1))),
     )
 
 returns : tie.Need-returns Inv-loop μ-loop
@@ -112,13 +99,11 @@ open-spec =
     count-candidates-requires
     loop-holds
     share-of-requires
-    mul-old
-    array-copy-out-old
+    worker-at-requires
     first-pair-requires
-    mul-t19
-    shared-slice-read-t25
-    mul-next
-    array-set-from-next
+    mul-t22
+    shared-slice-read-t24
+    with-worker-requires
     add-w
     loop-less
     loop-again
