@@ -1,7 +1,6 @@
 /* Document 01 in plain C. Each comment in quotes is the sentence that the code below it follows. */
 #include "reference.h"
 
-#include <stdbool.h>
 #include <stdio.h>
 #include <stdlib.h>
 #include <string.h>
@@ -578,6 +577,22 @@ void reference_plan(const struct call *c, uint64_t answer[NUMBERS])
     answer[CELL_COUNT] = p->cells;
 }
 
+bool reference_sizes(const struct call *c, size_t *rows, size_t *cells)
+{
+    struct query q;
+    struct plan *p = plan_room();
+    uint64_t answer[NUMBERS] = {0};
+
+    if (refuse_lists(c, answer))
+        return false;
+    take_query(c, &q);
+    if (refuse_query(c, &q, p, answer) && answer[REFUSAL] < 13)
+        return false;
+    *rows = p->rows;
+    *cells = p->cells;
+    return true;
+}
+
 /* ---- the text's reader */
 
 #define MOST_BYTES 16384
@@ -729,7 +744,7 @@ static bool refuse_text(struct text *t, const uint8_t *query, size_t length, uin
 /* ---- the text's writer */
 
 struct out {
-    uint8_t bytes[4096];
+    uint8_t *bytes;
     size_t length;
 };
 
@@ -737,8 +752,8 @@ static void put(struct out *o, const char *s)
 {
     size_t n = strlen(s);
 
-    if (o->length + n > sizeof o->bytes)
-        abort(); /* "a 4,096-byte buffer, which every answer fits" */
+    if (o->length + n > REFERENCE_ANSWER)
+        abort();
     memcpy(o->bytes + o->length, s, n);
     o->length += n;
 }
@@ -810,11 +825,11 @@ static void lend(struct call *c, struct text *t)
     c->lent[SKIPS] = (struct list){cells, TEXT_CELLS};
 }
 
-size_t reference_text(const uint8_t *query, size_t length, uint8_t *answer, size_t room)
+size_t reference_text(const uint8_t *query, size_t length, uint8_t answer[REFERENCE_ANSWER])
 {
     struct text t = {0};
     struct call c;
-    struct out o = {.length = 0};
+    struct out o = {answer, 0};
     uint64_t numbers[NUMBERS] = {0};
 
     if (!refuse_text(&t, query, length, numbers)) {
@@ -838,9 +853,5 @@ size_t reference_text(const uint8_t *query, size_t length, uint8_t *answer, size
         put(&o, "\n");
         put_joins(&o, &c, full((unsigned)t.tables));
     }
-    /* 15 "text entry: the answer is longer than its buffer; nothing is written" */
-    if (o.length > room)
-        return 0;
-    memcpy(answer, o.bytes, o.length);
     return o.length;
 }

@@ -5,6 +5,7 @@
 #ifndef REFERENCE_H
 #define REFERENCE_H
 
+#include <stdbool.h>
 #include <stddef.h>
 #include <stdint.h>
 
@@ -29,10 +30,16 @@ enum number { REFUSAL, PLACE, BEST, ROW_COUNT, CELL_COUNT, PAIRS, COUNTS, NUMBER
 /* Plans a call in its lent lists, or refuses it. */
 void reference_plan(const struct call *call, uint64_t answer[NUMBERS]);
 
-/* Plans a text; the answer's length, or 0 with nothing written where it is longer than the buffer. */
-size_t reference_text(const uint8_t *query, size_t length, uint8_t *answer, size_t room);
+/* Rows and cells that a call needs; false where it is refused before they count. */
+bool reference_sizes(const struct call *call, size_t *rows, size_t *cells);
 
-/* The refusal of the last text, 0 for a plan; 15 does not count. */
+/* "a 4,096-byte buffer, which every answer fits" */
+#define REFERENCE_ANSWER 4096
+
+/* The answer to a text, and its length. */
+size_t reference_text(const uint8_t *query, size_t length, uint8_t answer[REFERENCE_ANSWER]);
+
+/* The refusal in the last text's answer, 0 for a plan. */
 extern uint64_t reference_refusal;
 
 #endif
