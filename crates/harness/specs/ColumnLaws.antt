@@ -1,13 +1,16 @@
--- Room or no room, the numbers of an answer one by one, and a list copied to the start of another.
+-- Room or no room, that the promise fixes the outcome, the numbers of an answer one by one, and a list copied to the start of another.
 use mathlib.Core.Path.{_≡_, refl, sym, ap, _∙_}
 use mathlib.Core.List.{List, [], _∷_}
 use Prim.Native.Nat.{ℕ, suc, _+_, _≤_, _<_}
 use native.Mathlib.Nat.{zero-add}
 use native.Mathlib.Omega.{arith}
+use native.Mathlib.Decide.{decLt}
 use lib.ListN.{length, getD, set}
 use lib.Seq.{paste, paste-zero, paste-suc, take-length}
 use Rattle.rules.specs.Lists.{over}
 use Rattle.rules.specs.Refusals.{Memory, Input}
+use Rattle.rules.specs.Answers.{Outcome}
+use Rattle.rules.specs.laws.Answers.{planned-unique}
 use Rattle.harness.specs.Columns.{Shown, Untouched, Handed}
 
 module _ {i : Input} {before after : List ℕ} {left : Memory} {r : ℕ} where
@@ -16,6 +19,21 @@ module _ {i : Input} {before after : List ℕ} {left : Memory} {r : ℕ} where
 
   pub handed-short : length before < 14 → Untouched i before left after r → Handed i before left after r
   handed-short h s = record { enough = λ l. absurd (omega (arith, h, l)); short = λ _. s }
+
+-- any two outcomes that the promise allows are equal
+pub handed-unique : {i : Input} {before after after′ : List ℕ} {left left′ : Memory} {r r′ : ℕ} → Handed i before left after r → Handed i before left′ after′ r′ → (r ≡ r′) × (left ≡ left′) × (after ≡ after′)
+handed-unique {i} {before} {after} {after′} {left} {left′} {r} {r′} p p′ = go (decLt (length before) 14)
+  where
+    shown : Outcome → List ℕ
+    shown o = over (o .answer .refusal ∷ o .answer .place ∷ o .answer .best ∷ o .answer .rows ∷ o .answer .cells ∷ o .answer .pairs ∷ o .answer .counts) before
+
+    go : Dec (length before < 14) → (r ≡ r′) × (left ≡ left′) × (after ≡ after′)
+    go (yes l) = let u = p .short l in let u′ = p′ .short l in (u .result ∙ sym (u′ .result), u .lent ∙ sym (u′ .lent), u .answer ∙ sym (u′ .answer))
+    go (no n) =
+        let u = p .enough (omega arith) in
+        let u′ = p′ .enough (omega arith) in
+        let e = planned-unique (u .planned) (u′ .planned) in
+        (u .result ∙ sym (u′ .result), ap (λ (o : Outcome). o .left) e, u .shown ∙ ap shown e ∙ sym (u′ .shown))
 
 -- eight numbers one by one
 pub eight : (l : List ℕ) → length l ≡ 8 → getD l 0 0 ∷ getD l 1 0 ∷ getD l 2 0 ∷ getD l 3 0 ∷ getD l 4 0 ∷ getD l 5 0 ∷ getD l 6 0 ∷ getD l 7 0 ∷ [] ≡ l

@@ -56,3 +56,4 @@ main-spec =
     part-write-all-end
     write-all-requires
     returns)
+
