@@ -131,6 +131,20 @@ static void plan_here(const job *j)
 }
 
 
+static void lay_here(const job *j)
+{
+    const query *q = j->q;
+    size_t n = (size_t)q->tables, e = (size_t)q->edges;
+
+    lay_columns(q->rows, n, q->left, e, q->right, e, q->divisors, e, sets, MAX_SETS, estimates, MAX_SETS, costs, MAX_SETS, outers,
+                MAX_SETS, methods, MAX_SETS, skips, MAX_CELLS);
+}
+
+static void lay_native(const job *j)
+{
+    lay_out(j->q, &native);
+}
+
 static void with_skips(const job *j)
 {
     lay_out(j->q, &native);
@@ -264,26 +278,49 @@ static void row(const char *name, const query *q, uint64_t workers)
     fflush(stdout);
 }
 
+static void lay_row(const char *name, const query *q)
+{
+    job j = {q, 1};
+    double base, laid = ratio(lay_here, lay_native, &j, &base);
+
+    printf("| %-12s | %6" PRIu32 " | %9.2f | %9.1f |\n", name, native.count, laid, base / 1e3);
+    fflush(stdout);
+}
+
+/* each query of the benchmark whose name begins so */
+static void each(const char *only, int last_method, void (*show)(const char *, const query *))
+{
+    for (size_t g = 0; g < sizeof graphs / sizeof graphs[0]; g++)
+        for (int n = 8; n <= MAX_TABLES; n += 2)
+            for (int m = 1; m <= last_method; m += 3) {
+                char name[32];
+                query q;
+
+                snprintf(name, sizeof name, "%s %d", graphs[g].name, n);
+                if (strncmp(name, only, strlen(only)) != 0)
+                    continue;
+                make(&q, graphs[g].edges, n, m);
+                show(name, &q);
+            }
+}
+
+static void plan_rows(const char *name, const query *q)
+{
+    row(name, q, 1);
+    row(name, q, 8);
+}
+
 int main(int argc, char **argv)
 {
     const char *only = argc > 1 ? argv[1] : "";
 
+    printf("Whole planning\n\n");
     printf("| query | methods | workers | pairs | to skip vectors | to generate and test | to csg-cmp | C with skips, µs | its ns a pair |\n");
     printf("|---|---|---|---|---|---|---|---|---|\n");
-    for (size_t g = 0; g < sizeof graphs / sizeof graphs[0]; g++)
-        for (int n = 8; n <= MAX_TABLES; n += 2) {
-            char name[32];
-
-            snprintf(name, sizeof name, "%s %d", graphs[g].name, n);
-            if (strncmp(name, only, strlen(only)) != 0)
-                continue;
-            for (int m = 1; m <= MAX_METHODS; m += 3)
-                for (uint64_t w = 1; w <= 8; w += 7) {
-                    query q;
-
-                    make(&q, graphs[g].edges, n, m);
-                    row(name, &q, w);
-                }
-        }
+    each(only, MAX_METHODS, plan_rows);
+    printf("\nLaying out alone\n\n");
+    printf("| query | rows | to C | C, µs |\n");
+    printf("|---|---|---|---|\n");
+    each(only, 1, lay_row);
     return 0;
 }

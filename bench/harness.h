@@ -13,4 +13,7 @@ size_t plan_columns(LENT(rows), LENT(scans), LENT(left), LENT(right), LENT(divis
                     FILLED(outers), FILLED(methods), FILLED(skips), FILLED(log_workers), FILLED(log_driving), FILLED(log_inner),
                     FILLED(log_costs), FILLED(answer));
 
+uint64_t lay_columns(LENT(rows), LENT(left), LENT(right), LENT(divisors), FILLED(sets), FILLED(estimates), FILLED(costs), FILLED(outers),
+                     FILLED(methods), FILLED(skips));
+
 #endif

@@ -1,13 +1,16 @@
--- What `plan_columns` promises: `Handed`.
+-- What `plan_columns` and `lay_columns` promise: `Handed`, `Laying`.
 use mathlib.Core.Path.{_≡_}
-use mathlib.Core.List.{List, _∷_}
+use mathlib.Core.List.{List, [], _∷_}
 use Prim.Native.Nat.{ℕ, _≤_, _<_}
 use lib.ListN.{length}
 use Rattle.rules.specs.Lists.{over}
-use Rattle.rules.specs.Refusals.{Memory, Input}
+use Rattle.rules.specs.Refusals.{Memory, Input, firstOf, checks}
 use Rattle.rules.specs.Answers.{Planned}
 use Rattle.planner.specs.declared.Answer.{Answer}
-use Rattle.planner.specs.Plans.{outcomeOf}
+use Rattle.query.specs.Lists.{queryOf}
+use Rattle.memo.specs.declared.layout.Laid.{Laid}
+use Rattle.memo.specs.Layout.{Lent, lentOf, LaidOut}
+use Rattle.planner.specs.Plans.{memoryOf, inputOf, outcomeOf}
 
 -- the answer's fourteen numbers: the counts are eight
 abbrev pub numbersOf : Answer → List ℕ
@@ -30,3 +33,13 @@ pub record Untouched (i : Input) (before : List ℕ) (left : Memory) (after : Li
 pub record Handed (i : Input) (before : List ℕ) (left : Memory) (after : List ℕ) (r : ℕ) : Type 0 where
   pub enough : 14 ≤ length before → Shown i before left after r
   pub short : length before < 14 → Untouched i before left after r
+
+-- the query that is laid out: its scan costs are the rows, and its one method costs nothing
+abbrev pub layInput : (rows left right divisors sets estimates costs outers methods skips : List ℕ) → Input
+layInput rows left right divisors sets estimates costs outers methods skips =
+    inputOf (queryOf rows rows left right divisors (0 ∷ []) (0 ∷ []) (0 ∷ []) (0 ∷ [])) 1 1 [] (memoryOf sets estimates costs outers methods skips [] [] [] [])
+
+-- refused by a check with nothing changed, or what laying out promises
+pub record Laying (i : Input) (new : Lent) (r : ℕ) : Type 0 where
+  pub refused : (firstOf (checks i) .number ≡ 0 → ⊥) → (r ≡ firstOf (checks i) .number) × (new ≡ lentOf (i .lent))
+  pub laid : firstOf (checks i) .number ≡ 0 → (l : Laid) × LaidOut (i .query .graph) (lentOf (i .lent)) new l × (r ≡ l .refusal)

@@ -1,13 +1,16 @@
-// The library's entry from C, for tests and benchmarks only; it is not shipped.
+// The library's entry from C, and laying out alone; for tests and benchmarks only, not shipped.
 ghost use mathlib.Core.Path.{_≡_};
 ghost use Prim.Native.Nat.{_≤_};
 ghost use lib.ListN.{length};
 ghost use Rattle.rules.specs.Lists.{over};
 ghost use Rattle.query.specs.Lists.{queryOf};
 ghost use Rattle.planner.specs.Plans.{memoryOf, inputOf};
-ghost use Rattle.harness.specs.Columns.{numbersOf, Handed};
+ghost use Rattle.memo.specs.Layout.{lent};
+ghost use Rattle.harness.specs.Columns.{numbersOf, Handed, layInput, Laying};
+use memo::layout::lay_out;
 use planner::Answer;
 use planner::plan;
+use refusals::check;
 
 // The answer's fourteen numbers.
 fn numbers(answer: Answer) -> [u64; 14]
@@ -101,4 +104,63 @@ pub extern "C" fn plan_columns(
     let shown = numbers(planned);
     copy(&shown, answer);
     14
+}
+
+// Lays out as `plan` does, for a query of these tables and edges: the number of its refusal, or 0 with every column laid out.
+#[no_mangle]
+pub extern "C" fn lay_columns(
+    rows: &[u64],
+    left: &[u64],
+    right: &[u64],
+    divisors: &[u64],
+    sets: &mut [u64],
+    estimates: &mut [u64],
+    costs: &mut [u64],
+    outers: &mut [u64],
+    methods: &mut [u64],
+    skips: &mut [u64],
+) -> u64
+    ensures { λ r. ⌜ Laying (layInput (now (rows .entry)) (now (left .entry)) (now (right .entry)) (now (divisors .entry)) (now (sets .entry)) (now (estimates .entry)) (now (costs .entry)) (now (outers .entry)) (now (methods .entry)) (now (skips .entry))) (lent (now (sets .exit)) (now (estimates .exit)) (now (costs .exit)) (now (outers .exit)) (now (methods .exit)) (now (skips .exit))) r ⌝ }
+{
+    let zero = [0u64; 1];
+    let none = [0u64; 0];
+    let verdict = check(
+        rows,
+        rows,
+        left,
+        right,
+        divisors,
+        &zero,
+        &zero,
+        &zero,
+        &zero,
+        1,
+        1,
+        &none,
+        sets.len(),
+        estimates.len(),
+        costs.len(),
+        outers.len(),
+        methods.len(),
+        0,
+        0,
+        0,
+        0,
+    );
+    if verdict.number != 0 {
+        return verdict.number;
+    }
+    let laid = lay_out(
+        rows,
+        left,
+        right,
+        divisors,
+        sets,
+        estimates,
+        costs,
+        outers,
+        methods,
+        skips,
+    );
+    laid.refusal
 }

@@ -4,6 +4,7 @@ pub mod Bools
 pub mod Lists
 pub mod Sets
 pub mod Tables
+pub mod Copies
 pub mod Connected
 pub mod Decide
 pub mod Rows

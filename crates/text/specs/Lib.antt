@@ -1,4 +1,3 @@
 pub mod Composing
 pub mod PlanLaws
 pub mod ReadLaws
-pub mod CopyLaws

@@ -56,4 +56,3 @@ main-spec =
     part-write-all-end
     write-all-requires
     returns)
-

@@ -1,4 +1,4 @@
--- A list copied to the start of another, byte by byte.
+-- A list copied to the start of another, cell by cell.
 use mathlib.Core.Path.{_≡_, refl, sym, ap, _∙_}
 use mathlib.Core.List.{List, [], _++_}
 use Prim.Native.Nat.{ℕ, suc, _+_, _≤_, _<_}
@@ -6,9 +6,9 @@ use native.Mathlib.Nat.{zero-add}
 use native.Mathlib.Omega.{arith}
 use lib.ListN.{length, getD, set, take, drop}
 use lib.Seq.{paste, paste-zero, paste-suc, take-length}
 use Rattle.rules.specs.Lists.{over}
 
--- the first n bytes are copied
+-- the first n cells are copied
 abbrev pub copied : List ℕ → ℕ → List ℕ → List ℕ
 copied from n to = paste to 0 from n
 
