@@ -3,13 +3,17 @@ use mathlib.Core.Path.{_≡_, refl, sym, ap, _∙_}
 use mathlib.Core.List.{List, [], _∷_}
 use Prim.Native.Nat.{ℕ, _≤_, _<_}
 use native.Mathlib.Omega.{arith}
-use native.Mathlib.Decide.{decLt}
+use native.Mathlib.Decide.{decLt, ℕ-discrete}
 use lib.ListN.{length, getD}
 use Rattle.rules.specs.Lists.{over}
-use Rattle.rules.specs.Refusals.{Memory, Input}
+use Rattle.rules.specs.declared.Verdict.{Verdict}
+use Rattle.rules.specs.Refusals.{Memory, Input, firstOf, checks}
 use Rattle.rules.specs.Answers.{Outcome}
 use Rattle.rules.specs.laws.Answers.{planned-unique}
-use Rattle.harness.specs.Columns.{Shown, Untouched, Handed}
+use Rattle.memo.specs.declared.layout.Laid.{Laid}
+use Rattle.memo.specs.Layout.{Lent, lentOf, LaidOut}
+use Rattle.memo.specs.LayoutLaws.{laid-unique}
+use Rattle.harness.specs.Columns.{Shown, Untouched, Handed, Laying}
 
 module _ {i : Input} {before after : List ℕ} {left : Memory} {r : ℕ} where
   pub handed-shown : 14 ≤ length before → Shown i before left after r → Handed i before left after r
@@ -45,3 +49,26 @@ eight (a ∷ b ∷ c ∷ d ∷ []) l = absurd (omega arith)
 eight (a ∷ b ∷ c ∷ d ∷ e ∷ []) l = absurd (omega arith)
 eight (a ∷ b ∷ c ∷ d ∷ e ∷ f ∷ []) l = absurd (omega arith)
 eight (a ∷ b ∷ c ∷ d ∷ e ∷ f ∷ g ∷ []) l = absurd (omega arith)
+
+-- laying out: a check refuses, or it is done
+module _ (i : Input) {v : Verdict} (e : v ≡ firstOf (checks i)) where
+  same : v .number ≡ firstOf (checks i) .number
+  same = ap (λ (x : Verdict). x .number) e
+
+  pub lay-refused : (v .number ≡ 0 → ⊥) → Laying i (lentOf (i .lent)) (v .number)
+  lay-refused n = record { refused = λ _. (same, refl); laid = λ z. absurd (n (same ∙ z)) }
+
+  pub lay-laid : {new : Lent} {l : Laid} → v .number ≡ 0 → LaidOut (i .query .graph) (lentOf (i .lent)) new l → Laying i new (l .refusal)
+  lay-laid {l = l} z d = record { refused = λ n. absurd (n (sym same ∙ z)); laid = λ _. (l, d, refl) }
+
+-- any two outcomes of laying out that the promise allows are equal
+pub laying-unique : {i : Input} {new new′ : Lent} {r r′ : ℕ} → Laying i new r → Laying i new′ r′ → (r ≡ r′) × (new ≡ new′)
+laying-unique {i} {new} {new′} {r} {r′} p p′ = go (ℕ-discrete (firstOf (checks i) .number) 0)
+  where
+    go : Dec (firstOf (checks i) .number ≡ 0) → (r ≡ r′) × (new ≡ new′)
+    go (no n) = (p .refused n .0 ∙ sym (p′ .refused n .0), p .refused n .1 ∙ sym (p′ .refused n .1))
+    go (yes e) =
+        let a = p .laid e in
+        let b = p′ .laid e in
+        let u = laid-unique (i .query .graph) (lentOf (i .lent)) (a .1) (b .1) in
+        (a .2 ∙ ap (λ (l : Laid). l .refusal) (u .0) ∙ sym (b .2), u .1)
