@@ -2,10 +2,24 @@
 # make test         the gate: every crate from nothing, every must-fail edit, every program, then the library from C
 # make lib          target/staticlib/libbutirampol.a, for C
 # make engine       a small engine in C over it, run on an example
-.PHONY: run test lib engine c-tests
+# make compare      the library held to the C reference, as the gate does it (docs/TESTING.md)
+# make soak         the same for long: TEXTS, CALLS and SEED may be given
+# make fuzz         libFuzzer over the same, SECONDS long (needs clang)
+.PHONY: run test lib harness engine c-tests compare soak fuzz
 
 CFLAGS = -std=c11 -O2 -Wall -Wextra -Werror -Iinclude
 LIBRARY = target/staticlib/libbutirampol.a
+HARNESS = target/staticlib/libharness.a
+
+SANITIZERS = -g -fsanitize=address,undefined -fno-sanitize-recover=all
+REFERENCE = tests/c/check.c tests/c/reference.c
+REFERENCE_HEADERS = tests/c/check.h tests/c/reference.h tests/c/harness.h include/butirampol.h
+
+TEXTS = 2000000
+CALLS = 200000
+SEED = 2
+SECONDS = 600
+SHORT = target/compare -t 200000 -c 20000
 
 run:
 	@rt check plan </dev/null >&2
@@ -17,6 +31,9 @@ test:
 lib:
 	@mkdir -p target && rt staticlib butirampol >target/staticlib.log 2>&1 || { cat target/staticlib.log; exit 1; }
 
+harness:
+	@mkdir -p target && rt staticlib harness >target/harness.log 2>&1 || { cat target/harness.log; exit 1; }
+
 target/engine: examples/engine.c include/butirampol.h lib
 	@$(CC) $(CFLAGS) -o $@ $< $(LIBRARY)
 
@@ -26,9 +43,29 @@ target/buffers: tests/c/buffers.c include/butirampol.h lib
 target/stack: tests/c/stack.c include/butirampol.h lib
 	@$(CC) $(CFLAGS) -o $@ $< $(LIBRARY) -lpthread
 
+target/compare: tests/c/compare.c $(REFERENCE) $(REFERENCE_HEADERS) lib harness
+	@$(CC) $(CFLAGS) $(SANITIZERS) -o $@ $< $(REFERENCE) $(LIBRARY) $(HARNESS)
+
+target/fuzz: tests/c/fuzz.c $(REFERENCE) $(REFERENCE_HEADERS) lib harness
+	@command -v clang >/dev/null || { echo 'make fuzz needs clang: apt-get install clang libclang-rt-14-dev'; exit 1; }
+	@clang $(CFLAGS) $(SANITIZERS) -fsanitize=fuzzer -o $@ $< $(REFERENCE) $(LIBRARY) $(HARNESS)
+
 engine: target/engine
 	@target/engine examples/worked.txt
 
 # what `rt ci` does not see: the compiled library behind its C header
-c-tests: target/engine target/buffers target/stack
+c-tests: target/engine target/buffers target/stack target/compare
 	@tests/examples
+	@$(SHORT)
+
+compare: target/compare
+	@$(SHORT)
+
+soak: target/compare
+	@nice target/compare -t $(TEXTS) -c $(CALLS) -s $(SEED)
+
+# the seeds are the examples, each behind a byte for the buffer's length; what is found anew is kept in target/corpus
+fuzz: target/fuzz
+	@mkdir -p target/corpus
+	@for f in examples/*.txt examples/refused/*.txt; do { printf '0'; cat $$f; } >target/corpus/$$(basename $$f .txt); done
+	@nice target/fuzz -max_total_time=$(SECONDS) -max_len=16400 -dict=tests/c/fuzz.dict -artifact_prefix=target/ -print_final_stats=1 target/corpus

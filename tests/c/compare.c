@@ -50,6 +50,7 @@ static bool chance(unsigned percent)
     return below(100) < percent;
 }
 
+/* one of some values; they draw no numbers themselves, so that a seed gives the same texts by every compiler */
 #define ONE_OF(...) ((const uint64_t[]){__VA_ARGS__}[below(sizeof((const uint64_t[]){__VA_ARGS__}) / sizeof(uint64_t))])
 
 /* ---- queries */
@@ -78,8 +79,11 @@ static uint64_t value(enum style style, uint64_t least, uint64_t most)
         return between(least, most < 1000 ? most : 1000);
     case CUT:
         return chance(80) ? most - below(3) : between(least, most);
-    default:
-        return chance(50) ? between(least, most) : least + (between(0, most - least) >> below(30));
+    default: {
+        unsigned by = chance(50) ? 0 : (unsigned)below(30);
+
+        return least + (between(0, most - least) >> by);
+    }
     }
 }
 
@@ -183,7 +187,7 @@ static void make_query(struct lists *q)
 {
     enum style style = (enum style)below(STYLES);
     unsigned much = (unsigned)below(1000), shape = (unsigned)below(7);
-    unsigned n = (unsigned)(much < 600 ? between(1, 5) : much < 930 ? between(5, 7) : much < 988 ? between(8, 9) : between(10, MOST_TABLES));
+    unsigned n = (unsigned)(much < 600 ? between(1, 5) : much < 930 ? between(5, 7) : much < 996 ? between(8, 9) : between(10, MOST_TABLES));
 
     memset(q->count, 0, sizeof q->count);
     if (n > 12 && chance(60))
@@ -204,6 +208,7 @@ static void spoil(struct lists *q, bool wild)
 {
     uint64_t far = wild ? ONE_OF(UINT64_MAX, UINT64_MAX - 1, UINT64_C(1) << 63, UINT64_C(1) << 32) : 1000000000;
     size_t n = q->count[ROWS], edges = q->count[LEFT], methods = q->count[FIXED];
+    unsigned end = (unsigned)between(LEFT, RIGHT), coefficient = (unsigned)between(PER_OUTER, PER_RESULT);
     size_t t = n > 0 ? below(n) : 0, e = edges > 0 ? below(edges) : 0, m = methods > 0 ? below(methods) : 0;
 
     switch (below(16)) {
@@ -217,10 +222,10 @@ static void spoil(struct lists *q, bool wild)
         q->cells[FIXED][m] = wild ? ONE_OF(1000000001, far) : ONE_OF(1000000000, 1000000001);
         break;
     case 3:
-        q->cells[between(PER_OUTER, PER_RESULT)][m] = ONE_OF(1001, far, 1000);
+        q->cells[coefficient][m] = ONE_OF(1001, far, 1000);
         break;
     case 4:
-        q->cells[between(LEFT, RIGHT)][e] = ONE_OF(0, n + 1, 17, far);
+        q->cells[end][e] = ONE_OF(0, n + 1, 17, far);
         break;
     case 5:
         q->cells[LEFT][e] = q->cells[RIGHT][e];
@@ -232,7 +237,7 @@ static void spoil(struct lists *q, bool wild)
         if (edges > 0) {
             size_t to = below(edges);
 
-            add_edge(q, q->cells[chance(50) ? LEFT : RIGHT][e], 0, 1);
+            add_edge(q, q->cells[end][e], 0, 1);
             q->cells[RIGHT][edges] = q->cells[LEFT][e] + q->cells[RIGHT][e] - q->cells[LEFT][edges];
             if (q->count[LEFT] > edges)
                 for (unsigned k = LEFT; k <= DIVISORS; k++)
@@ -402,7 +407,7 @@ static void damage(struct text *t)
         splice(t, line, length, NULL, 0);
         break;
     case 8: /* a line to another place */
-        if (other + line_length(t, other) <= line) {
+        if (other + line_length(t, other) <= line && t->length + length <= TEXT) {
             splice(t, other, 0, t->bytes + line, length);
             splice(t, line + length, length, NULL, 0);
         }
@@ -418,11 +423,10 @@ static void damage(struct text *t)
     case 11:
         insert(t, somewhere(t, "\n"), "\r");
         break;
-    case 12: { /* a zero byte */
+    case 12: /* a zero byte */
         byte = 0;
-        splice(t, chance(50) ? somewhere(t, "\t\n") : at, chance(50) && at < t->length ? 0 : 0, &byte, 1);
+        splice(t, chance(50) ? somewhere(t, "\t\n") : at, 0, &byte, 1);
         break;
-    }
     case 13: /* leading zeros, long numbers */
         at = somewhere(t, "\t");
         if (at < t->length)
@@ -444,7 +448,9 @@ static void damage(struct text *t)
             t->bytes[line] = (uint8_t)"TMEWtmewXPJQ"[below(12)];
         break;
     case 16: /* lines more, before or behind */
-        insert(t, chance(50) ? t->length : line, (const char *[]){"W\t1\t1\n", "T\t1\t1\t1\n", "M\t1\t1\t1\t1\n", "E\t1\t2\t1\n", "\n", "T\n", "W\t1\t1\t1\n", "X\n"}[below(8)]);
+        if (chance(50))
+            line = t->length;
+        insert(t, line, (const char *[]){"W\t1\t1\n", "T\t1\t1\t1\n", "M\t1\t1\t1\t1\n", "E\t1\t2\t1\n", "\n", "T\n", "W\t1\t1\t1\n", "X\n"}[below(8)]);
         break;
     case 17: /* no last LF, or bytes behind it */
         if (chance(50) && t->length > 0)
@@ -456,8 +462,7 @@ static void damage(struct text *t)
         t->length = chance(50) ? line : at;
         break;
     case 19: /* a piece from elsewhere */
-        if (line + length <= t->length)
-            splice(t, at, 0, t->bytes + other, below(t->length - other + 1) % 20);
+        splice(t, at, 0, t->bytes + other, below(t->length - other + 1) % 20);
         break;
     case 20: /* two lines in one */
         at = somewhere(t, "\n");
@@ -493,9 +498,30 @@ static void crowd(struct text *t, struct lists *q)
                 if (!has_edge(p, a, b) && p->count[LEFT] < to)
                     add_edge(p, a, b, between(1, 5));
         while (p->count[LEFT] < to)
-            add_edge(p, between(1, 16), between(1, 16), 1);
+            add_edge(p, 1, between(1, 16), 1);
     }
     write_text(t, p);
+}
+
+/* a query that nearly fills the text entry's rows or cells, or is just too large for them */
+static void fill(struct lists *q)
+{
+    for (unsigned tries = 0; tries < 40; tries++) {
+        struct call c = {.workers = 1, .scheme = 1};
+        unsigned n = (unsigned)between(10, 13), shape = (unsigned)between(4, 5);
+        size_t rows, cells;
+
+        memset(q->count, 0, sizeof q->count);
+        for (unsigned t = 1; t <= n; t++)
+            add_table(q, TINY);
+        add_method(q, MEDIUM);
+        add_edges(q, n, MEDIUM, shape);
+        stir(q, n);
+        for (unsigned k = 0; k < GIVEN; k++)
+            c.given[k] = (struct list){q->cells[k], q->count[k]};
+        if (reference_sizes(&c, &rows, &cells) && rows > 700 && rows < 1150 && cells > 4700)
+            return;
+    }
 }
 
 static void make_text(struct text *t)
@@ -507,44 +533,41 @@ static void make_text(struct text *t)
     if (kind < 200) /* spoiled in its numbers */
         for (uint64_t times = between(1, 2); times > 0; times--)
             spoil(&q, false);
+    if (kind == 564)
+        fill(&q);
     write_text(t, &q);
     if (kind >= 180 && kind < 560) /* damaged in its bytes */
         for (uint64_t times = chance(60) ? 1 : between(2, 5); times > 0; times--)
             damage(t);
-    if (kind >= 560 && kind < 575)
+    if (kind >= 560 && kind < 562)
         crowd(t, &q);
-    if (kind == 575) {
+    if (kind == 562) {
         t->length = 0;
         pad(t, below(200));
     }
-    if (kind == 576)
+    if (kind == 563)
         pad(t, between(MOST_BYTES - 2, MOST_BYTES + 2));
 }
 
 /* ---- what was met */
 
 static uint64_t text_counts[NEWEST_REFUSAL + 1], call_counts[NEWEST_REFUSAL + 1];
-static uint64_t plans_met, entry_calls;
+static uint64_t pairs_met;
 
 /* two buffers for each text: one that its answer fits, and one that is likely too short */
 static bool try_text(const struct text *t)
 {
     uint8_t answer[REFERENCE_ANSWER];
     size_t length = reference_text(t->bytes, t->length, answer);
-    size_t wide = length + ONE_OF(0, 0, 1, 2, 8, 100, REFERENCE_ANSWER - length), narrow = ONE_OF(0, 1, length / 2, length - 1, length - 1, below(length));
+    size_t wide = length + ONE_OF(0, 0, 1, 2, 8, 100, REFERENCE_ANSWER - length), any = below(length);
+    size_t narrow = ONE_OF(0, 1, length / 2, length - 1, length - 1, any);
 
     text_counts[reference_refusal]++;
     text_counts[SHORT_BUFFER]++;
-    entry_calls += 2;
     return check_text(t->bytes, t->length, answer, length, wide) && check_text(t->bytes, t->length, answer, length, narrow);
 }
 
 /* ---- library calls */
-
-struct memory {
-    uint64_t *cells[LENT];
-    size_t count[LENT];
-};
 
 /* `count` cells of one lent list, each with a mark of its own */
 static void lend(struct call *c, unsigned list, size_t count)
@@ -582,16 +605,19 @@ static void make_turns(struct call *c, size_t pairs)
         count = sizeof turns / sizeof turns[0];
     for (size_t i = 0; i < count; i++)
         turns[i] = kind == 0 ? one : kind == 1 ? i % m : kind == 2 ? below(one + 1) : below(m);
-    if (count > 0 && chance(8))
-        turns[below(count)] = ONE_OF(m, m + 1, 8, UINT64_MAX);
+    if (count > 0 && chance(8)) {
+        size_t at = below(count);
+
+        turns[at] = ONE_OF(m, m + 1, 8, UINT64_MAX);
+    }
     c->given[TURNS] = (struct list){turns, count};
 }
 
 static size_t around(size_t needed)
 {
-    size_t more = (size_t)ONE_OF(0, 0, 0, 1, 2, 50);
+    size_t more = (size_t)ONE_OF(0, 0, 0, 1, 2, 50), any = below(needed + 1);
 
-    return chance(8) && needed > 0 ? needed - (size_t)ONE_OF(1, 1, needed, below(needed) + 1) : needed + more;
+    return chance(8) && needed > 0 ? needed - (size_t)ONE_OF(1, 1, needed, any) : needed + more;
 }
 
 /* one list a cell shorter or longer than those beside it */
@@ -620,7 +646,7 @@ static bool try_call(const struct call *c)
     else
         call_counts[SHORT_BUFFER]++;
     if (cells >= NUMBERS && call_answer[REFUSAL] == 0)
-        plans_met += call_answer[PAIRS];
+        pairs_met += call_answer[PAIRS];
     return good;
 }
 
@@ -731,7 +757,7 @@ int main(int argc, char **argv)
             return 1;
         }
     print_counts("library calls", calls, call_counts);
-    printf("%" PRIu64 " pairs handed; 15 counts answers too short; in all %.0f s\n", plans_met, (double)(clock() - start) / CLOCKS_PER_SEC);
+    printf("%" PRIu64 " pairs handed; 15 counts answers too short; in all %.0f s\n", pairs_met, (double)(clock() - start) / CLOCKS_PER_SEC);
     if (!all_met())
         return 1;
     printf("0 differences\n");

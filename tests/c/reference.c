@@ -35,6 +35,7 @@ struct query {
     unsigned tables, methods;
     uint64_t rows[TABLES + 1], scans[TABLES + 1];
     uint64_t divisor[TABLES + 1][TABLES + 1]; /* 0: no edge */
+    set near[TABLES + 1];                     /* the tables that have an edge to this one */
     struct method method[METHOD_COUNT + 1];
 };
 
@@ -103,27 +104,21 @@ static bool linked(const struct query *q, unsigned a, unsigned b)
 static bool edge_between(const struct query *q, set x, set y)
 {
     for (unsigned a = 1; a <= q->tables; a++)
-        for (unsigned b = 1; b <= q->tables; b++)
-            if (holds(x, a) && holds(y, b) && linked(q, a, b))
-                return true;
+        if (holds(x, a) && (q->near[a] & y) != 0)
+            return true;
     return false;
 }
 
-/* flood fill from the lowest table of a set that is not empty */
+/* flood fill from one table of a set that is not empty */
 static bool is_connected(const struct query *q, set s)
 {
-    unsigned stack[TABLES], deep = 0, tables[TABLES], n = list_tables(s, tables);
-    set seen = 1u << (tables[0] - 1);
+    set seen = s & (0 - s), before = 0;
 
-    stack[deep++] = tables[0];
-    while (deep > 0) {
-        unsigned a = stack[--deep];
-
-        for (unsigned i = 0; i < n; i++)
-            if (!holds(seen, tables[i]) && linked(q, a, tables[i])) {
-                seen |= 1u << (tables[i] - 1);
-                stack[deep++] = tables[i];
-            }
+    while (seen != before) {
+        before = seen;
+        for (unsigned a = 1; a <= q->tables; a++)
+            if (holds(before, a))
+                seen |= q->near[a] & s;
     }
     return seen == s;
 }
@@ -169,7 +164,7 @@ static int memo_order(const void *p, const void *r)
 }
 
 /* "One memo row for each nonempty connected set" */
-static void list_rows(const struct query *q, struct plan *p)
+static void find_rows(const struct query *q, struct plan *p)
 {
     p->rows = p->cells = 0;
     for (set s = 1; s <= full(q->tables); s++) {
@@ -179,6 +174,10 @@ static void list_rows(const struct query *q, struct plan *p)
             p->cells += size_of(s);
         }
     }
+}
+
+static void order_rows(struct plan *p)
+{
     qsort(p->memo, p->rows, sizeof p->memo[0], memo_order);
     memset(p->first, 0, sizeof p->first);
     memset(p->count, 0, sizeof p->count);
@@ -510,6 +509,8 @@ static void take_query(const struct call *c, struct query *q)
         uint64_t a = g[LEFT].cells[i], b = g[RIGHT].cells[i];
 
         q->divisor[a][b] = q->divisor[b][a] = g[DIVISORS].cells[i];
+        q->near[a] |= 1u << (b - 1);
+        q->near[b] |= 1u << (a - 1);
     }
     for (unsigned m = 1; m <= q->methods; m++)
         q->method[m] = (struct method){g[FIXED].cells[m - 1], g[PER_OUTER].cells[m - 1], g[PER_INNER].cells[m - 1], g[PER_RESULT].cells[m - 1]};
@@ -528,7 +529,7 @@ static bool refuse_query(const struct call *c, const struct query *q, struct pla
     for (size_t i = 0; i < c->given[TURNS].count; i++)
         if (c->given[TURNS].cells[i] >= c->workers)
             return refuse(answer, 12, i);
-    list_rows(q, p);
+    find_rows(q, p);
     /* 13 "memo rows fewer than connected sets" */
     if (c->lent[SETS].count < p->rows)
         return refuse(answer, 13, 0);
@@ -558,6 +559,7 @@ void reference_plan(const struct call *c, uint64_t answer[NUMBERS])
     take_query(c, &q);
     if (refuse_query(c, &q, p, answer))
         return;
+    order_rows(p);
     find_all(&q, p);
     /* "Spare rows are unchanged.", "spare cells are unchanged" */
     for (size_t i = 0; i < p->rows; i++) {
