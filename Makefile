@@ -5,7 +5,8 @@
 # make compare      the library held to the C reference, as the gate does it (docs/TESTING.md)
 # make soak         the same for long: TEXTS, CALLS and SEED may be given
 # make fuzz         libFuzzer over the same, SECONDS long (needs clang)
-.PHONY: run test lib harness engine c-tests compare soak fuzz
+# make bench        the library beside native planners in C (bench/README.md); ROW="clique 12" for those rows alone
+.PHONY: run test lib harness engine c-tests compare soak fuzz bench
 
 CFLAGS = -std=c11 -O2 -Wall -Wextra -Werror -Iinclude
 LIBRARY = target/staticlib/libbutirampol.a
@@ -69,3 +70,9 @@ fuzz: target/fuzz
 	@mkdir -p target/corpus
 	@for f in examples/*.txt examples/refused/*.txt; do { printf '0'; cat $$f; } >target/corpus/$$(basename $$f .txt); done
 	@nice target/fuzz -max_total_time=$(SECONDS) -max_len=16400 -dict=tests/c/fuzz.dict -artifact_prefix=target/ -print_final_stats=1 target/corpus
+
+target/bench: bench/bench.c bench/native.c bench/native.h tests/c/harness.h harness
+	@$(CC) -std=gnu11 -O3 -Wall -Wextra -Werror -Itests/c -o $@ bench/bench.c bench/native.c $(HARNESS)
+
+bench: target/bench
+	@target/bench "$(ROW)"

@@ -5,6 +5,7 @@
  *     bench          the whole table
  *     bench ROW      only rows whose name begins so, as "clique 12"
  */
+#include <inttypes.h>
 #include <stdio.h>
 #include <stdlib.h>
 #include <string.h>

@@ -22,4 +22,11 @@ size_t plan_columns(const uint64_t *rows, size_t rows_len, const uint64_t *scans
                     uint64_t *log_inner, size_t log_inner_len, uint64_t *log_costs, size_t log_costs_len,                   /* log */
                     uint64_t *answer, size_t answer_len);
 
+/* Lays out alone, for these tables and edges: the number of the refusal, or 0 with sets, estimates and skip cells as `plan` lays them. */
+uint64_t lay_columns(const uint64_t *rows, size_t rows_len, const uint64_t *left, size_t left_len,                              /* graph */
+                     const uint64_t *right, size_t right_len, const uint64_t *divisors, size_t divisors_len,                    /* graph */
+                     uint64_t *sets, size_t sets_len, uint64_t *estimates, size_t estimates_len,                                /* memo */
+                     uint64_t *costs, size_t costs_len, uint64_t *outers, size_t outers_len,                                    /* memo */
+                     uint64_t *methods, size_t methods_len, uint64_t *skips, size_t skips_len);                                 /* memo */
+
 #endif
