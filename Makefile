@@ -4,8 +4,9 @@
 # make engine       a small engine in C over it, run on an example
 # make compare      the library held to the C reference, as the gate does it (docs/TESTING.md)
 # make soak         the same for long: TEXTS, CALLS and SEED may be given
+# make faults       faults put into the reference, each of which the comparison must find
 # make fuzz         libFuzzer over the same, SECONDS long (needs clang)
-.PHONY: run test lib harness engine c-tests compare soak fuzz
+.PHONY: run test lib harness engine c-tests compare soak faults fuzz
 
 CFLAGS = -std=c11 -O2 -Wall -Wextra -Werror -Iinclude
 LIBRARY = target/staticlib/libbutirampol.a
@@ -63,6 +64,9 @@ compare: target/compare
 
 soak: target/compare
 	@nice target/compare -t $(TEXTS) -c $(CALLS) -s $(SEED)
+
+faults: lib harness
+	@nice tests/c/faults
 
 # the seeds are the examples, each behind a byte for the buffer's length; what is found anew is kept in target/corpus
 fuzz: target/fuzz
