@@ -4,9 +4,10 @@
 # make engine       a small engine in C over it, run on an example
 # make compare      the library held to the C reference, as the gate does it (docs/TESTING.md)
 # make soak         the same for long: TEXTS, CALLS and SEED may be given
+# make faults       faults put into the reference, each of which the comparison must find
 # make fuzz         libFuzzer over the same, SECONDS long (needs clang)
 # make bench        the library beside native planners in C (bench/README.md); ROW="clique 12" for those rows alone
-.PHONY: run test lib harness engine c-tests compare soak fuzz bench
+.PHONY: run test lib harness engine c-tests compare soak faults fuzz bench
 
 CFLAGS = -std=c11 -O2 -Wall -Wextra -Werror -Iinclude
 LIBRARY = target/staticlib/libbutirampol.a
@@ -64,6 +65,9 @@ compare: target/compare
 
 soak: target/compare
 	@nice target/compare -t $(TEXTS) -c $(CALLS) -s $(SEED)
+
+faults: lib harness
+	@nice tests/c/faults
 
 # the seeds are the examples, each behind a byte for the buffer's length; what is found anew is kept in target/corpus
 fuzz: target/fuzz

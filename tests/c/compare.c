@@ -506,9 +506,11 @@ static void crowd(struct text *t, struct lists *q)
 /* a query that nearly fills the text entry's rows or cells, or is just too large for them */
 static void fill(struct lists *q)
 {
-    for (unsigned tries = 0; tries < 40; tries++) {
+    bool clique = chance(20); /* of ten: 1,023 rows and 5,120 cells */
+
+    for (unsigned tries = 0; tries < 10; tries++) {
         struct call c = {.workers = 1, .scheme = 1};
-        unsigned n = (unsigned)between(10, 13), shape = (unsigned)between(4, 5);
+        unsigned n = clique ? 10 : (unsigned)between(10, 13), shape = clique ? 3 : (unsigned)between(4, 5);
         size_t rows, cells;
 
         memset(q->count, 0, sizeof q->count);
