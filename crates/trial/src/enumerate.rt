@@ -4,11 +4,9 @@ use super::flags::count;
 use super::flags::group_from_top;
 use super::flags::group_of;
 use super::flags::has;
-use super::flags::nobody;
 use super::flags::number_of;
 use super::flags::part;
 use super::flags::power;
-use super::flags::with;
 use super::flags::with_if;
 use super::memory::CELL_COUNT;
 use super::memory::COSTS;
@@ -33,6 +31,7 @@ use super::memory::TABLES;
 use super::memory::WAYS;
 use super::memory::fill;
 use super::memory::get;
+use super::memory::least;
 use super::memory::number;
 use super::memory::put;
 use super::memory::set_number;
@@ -96,16 +95,24 @@ fn connected(m: &[u64], group: Group) -> bool {
     number_of(reached) == number_of(group)
 }
 
-// "for each lower table of the set that has an edge to it, ascending, divide by the divisor, rounding down, and raise to 1 if 0"
+// "divide by the divisor, rounding down, and raise to 1 if 0"; 0 is no edge.
+fn shrunk(estimate: u64, divisor: u64) -> u64 {
+    if divisor == 0 {
+        return estimate;
+    }
+    let e = estimate / divisor;
+    if e == 0 {
+        return 1;
+    }
+    e
+}
+
+// "for each lower table of the set that has an edge to it, ascending"
 fn divided(m: &[u64], group: Group, t: u64, estimate: u64) -> u64 {
     let mut e = estimate;
     for u in 0..t {
-        let d = divisor(m, u, t);
-        if has(group, u) && d != 0 {
-            e = e / d;
-            if e == 0 {
-                e = 1;
-            }
+        if has(group, u) {
+            e = shrunk(e, divisor(m, u, t));
         }
     }
     e
@@ -200,42 +207,51 @@ fn scan(m: &[u64], group: Group) -> u64 {
     NEVER
 }
 
-// The least cost over all trees of a group of at most `fuel` tables.
-fn cheapest(m: &[u64], group: Group, fuel: u64) -> u64 {
-    let size = count(group);
-    if size < 2 {
+// What a group costs with no join.
+fn alone(m: &[u64], group: Group) -> u64 {
+    if count(group) == 1 {
         return scan(m, group);
     }
+    NEVER
+}
+
+// The lower of `best` and the cost of a join of two parts that cost p and q.
+fn lowered(m: &[u64], best: u64, a: Group, b: Group, p: u64, q: u64) -> u64 {
+    let join = priced(m, number_of(a), number_of(b), sum(p, q));
+    least(best, join.cost)
+}
+
+// Half of the number of a group's parts: as many splits, less one, each once, have the last table in the second part.
+fn half_of(group: Group) -> u64 {
+    power(count(group)) / 2
+}
+
+// The second part of split c, as a number of `part`.
+fn rest_of(half: u64, c: u64) -> u64 {
+    wrapping_sub_u64(sum(half, half), sum(c, 1))
+}
+
+// The least cost over all trees of a group of at most `fuel` tables.
+fn cheapest(m: &[u64], group: Group, fuel: u64) -> u64 {
     if fuel == 0 {
         return NEVER;
     }
     let fewer = fuel - 1;
-    let half = power(size) / 2;
-    let mut best = NEVER;
+    let half = half_of(group);
+    let mut best = alone(m, group);
     for c in 1..half {
         let a = part(group, c);
-        let b = part(group, wrapping_sub_u64(sum(half, half) - 1, c));
+        let b = part(group, rest_of(half, c));
         if fits_tree(m, a, b) {
-            let parts = sum(cheapest(m, a, fewer), cheapest(m, b, fewer));
-            let join = priced(m, number_of(a), number_of(b), parts);
-            if join.cost < best {
-                best = join.cost;
-            }
+            let p = cheapest(m, a, fewer);
+            let q = cheapest(m, b, fewer);
+            best = lowered(m, best, a, b, p, q);
         }
     }
     best
 }
 
-// The best of the joins that have split c of a group, with best parts.
-fn split_choice(m: &[u64], group: Group, c: u64, other: u64) -> Join {
-    let a = part(group, c);
-    let b = part(group, other);
-    if fits_tree(m, a, b) {
-        let x = number_of(a);
-        let y = number_of(b);
-        let parts = sum(get(m, COST_OF, x), get(m, COST_OF, y));
-        return priced(m, x, y, parts);
-    }
+fn nothing() -> Join {
     Join {
         cost: NEVER,
         outer: 0,
@@ -243,20 +259,25 @@ fn split_choice(m: &[u64], group: Group, c: u64, other: u64) -> Join {
     }
 }
 
+// The best of the joins that have a split of a group, with best parts.
+fn split_choice(m: &[u64], group: Group, c: u64, rest: u64) -> Join {
+    let a = part(group, c);
+    let b = part(group, rest);
+    if fits_tree(m, a, b) {
+        let x = number_of(a);
+        let y = number_of(b);
+        let parts = sum(get(m, COST_OF, x), get(m, COST_OF, y));
+        return priced(m, x, y, parts);
+    }
+    nothing()
+}
+
 // The best of all joins that a group's trees end in.
 fn choice(m: &[u64], group: Group) -> Join {
-    let all = power(count(group));
-    let half = all / 2;
-    let mut best = Join {
-        cost: NEVER,
-        outer: 0,
-        method: 0,
-    };
+    let half = half_of(group);
+    let mut best = nothing();
     for c in 1..half {
-        best = better(
-            best,
-            split_choice(m, group, c, wrapping_sub_u64(all, sum(c, 1))),
-        );
+        best = better(best, split_choice(m, group, c, rest_of(half, c)));
     }
     best
 }
@@ -270,19 +291,39 @@ fn cost_of(m: &[u64], group: Group, join: Join) -> u64 {
     cheapest(m, group, ALL_TREES)
 }
 
-// Row `at`: a connected group.
-fn put_row(m: &mut [u64], at: u64, group: Group) {
-    let set = number_of(group);
-    let size = estimate(m, group);
+fn put_layout(m: &mut [u64], at: u64, set: u64, size: u64) {
     put(m, SETS, at, set);
     put(m, ESTIMATES, at, size);
     put(m, ESTIMATE_OF, set, size);
-    let join = choice(m, group);
-    let cost = cost_of(m, group, join);
+}
+
+fn put_join(m: &mut [u64], at: u64, set: u64, cost: u64, join: Join) {
     put(m, COST_OF, set, cost);
     put(m, COSTS, at, cost);
     put(m, OUTERS, at, join.outer);
     put(m, METHODS, at, join.method);
+}
+
+// Row `at`: a connected group.
+fn put_row(m: &mut [u64], at: u64, group: Group) {
+    let set = number_of(group);
+    let size = estimate(m, group);
+    put_layout(m, at, set, size);
+    let join = choice(m, group);
+    let cost = cost_of(m, group, join);
+    put_join(m, at, set, cost, join);
+}
+
+// Row `at`, where a group is of the size and connected; the next row.
+fn put_if_row(m: &mut [u64], at: u64, group: Group, size: u64) -> u64 {
+    if count(group) != size {
+        return at;
+    }
+    if !connected(m, group) {
+        return at;
+    }
+    put_row(m, at, group);
+    sum(at, 1)
 }
 
 // Sets of one size in ascending sequence: with the first table as the highest digit their numbers fall.
@@ -291,10 +332,7 @@ fn put_size(m: &mut [u64], n: u64, size: u64, from: u64) -> u64 {
     let mut at = from;
     for k in 0..all {
         let group = group_from_top(n, wrapping_sub_u64(all, sum(k, 1)));
-        if count(group) == size && connected(m, group) {
-            put_row(m, at, group);
-            at = sum(at, 1);
-        }
+        at = put_if_row(m, at, group, size);
     }
     at
 }
@@ -323,16 +361,21 @@ fn lacking(m: &[u64], t: u64, from: u64, end: u64) -> u64 {
     end
 }
 
-// The skip values of row i of the size whose rows are from `start` to `end`, at `cell` on.
-fn put_vector(m: &mut [u64], i: u64, start: u64, end: u64, cell: u64) -> u64 {
-    let group = group_of(get(m, SETS, i));
-    let mut at = cell;
+// The skip value of row i and table t, of the size whose rows are from `start` to `end`, to cell `at`; the next cell.
+fn put_skip(m: &mut [u64], at: u64, i: u64, t: u64, start: u64, end: u64) -> u64 {
+    if !has(group_of(get(m, SETS, i)), t) {
+        return at;
+    }
+    let row = lacking(m, t, sum(i, 1), end);
+    put(m, SKIPS, at, sum(wrapping_sub_u64(row, start), 1));
+    sum(at, 1)
+}
+
+// The skip values of row i, from cell `from` on.
+fn put_vector(m: &mut [u64], from: u64, i: u64, start: u64, end: u64) -> u64 {
+    let mut at = from;
     for t in 0..16u64 {
-        if has(group, t) {
-            let row = lacking(m, t, sum(i, 1), end);
-            put(m, SKIPS, at, sum(wrapping_sub_u64(row, start), 1));
-            at = sum(at, 1);
-        }
+        at = put_skip(m, at, i, t, start, end);
     }
     at
 }
@@ -345,7 +388,7 @@ pub fn put_skips(m: &mut [u64]) {
         let size = count(group_of(get(m, SETS, i)));
         let start = get(m, STARTS, size);
         let end = get(m, STARTS, sum(size, 1));
-        at = put_vector(m, i, start, end, at);
+        at = put_vector(m, at, i, start, end);
     }
     set_number(m, CELL_COUNT, at);
 }

@@ -8,7 +8,6 @@ use super::memory::LISTED;
 use super::memory::MATRIX;
 use super::memory::NAMES;
 use super::memory::OUTER;
-use super::memory::PARENT;
 use super::memory::RESULT;
 use super::memory::RIGHT;
 use super::memory::ROWS;
@@ -19,15 +18,13 @@ use super::memory::TABLES;
 use super::memory::TURNS;
 use super::memory::WAYS;
 use super::memory::WORKERS;
-use super::memory::add;
+use super::memory::either;
 use super::memory::fill;
 use super::memory::get;
-use super::memory::least;
 use super::memory::number;
 use super::memory::put;
 use super::memory::set_number;
 use super::memory::sum;
-use super::memory::NUMBERS;
 use std::num::wrapping_add_u64;
 
 // The graphs.
@@ -76,7 +73,9 @@ fn pick(m: &mut [u64], kind: u64, most: u64) -> u64 {
     }
 }
 
-fn pick_list(m: &mut [u64], list: u64, n: u64, kind: u64, most: u64) {
+// The first `n` of a list, all of one kind.
+fn pick_list(m: &mut [u64], list: u64, n: u64, most: u64) {
+    let kind = draw(m, 6);
     for i in 0..n {
         let value = pick(m, kind, most);
         put(m, list, i, value);
@@ -128,21 +127,22 @@ fn shuffle(m: &mut [u64], n: u64) {
     }
 }
 
-// An edge of the tables at places i and j of the order.
-fn link(m: &mut [u64], i: u64, j: u64, divisor: u64) {
-    let mut a = get(m, NAMES, i);
-    let mut b = get(m, NAMES, j);
-    if draw(m, 2) == 0 {
-        a = get(m, NAMES, j);
-        b = get(m, NAMES, i);
-    }
+fn put_edge(m: &mut [u64], a: u64, b: u64, divisor: u64) {
     let e = number(m, EDGES);
     put(m, LEFT, e, sum(a, 1));
     put(m, RIGHT, e, sum(b, 1));
     put(m, DIVISORS, e, divisor);
+    set_number(m, EDGES, sum(e, 1));
+}
+
+// An edge of the tables at places i and j of the order, either way round.
+fn link(m: &mut [u64], i: u64, j: u64, divisor: u64) {
+    let turned = draw(m, 2) == 0;
+    let a = get(m, NAMES, either(turned, j, i));
+    let b = get(m, NAMES, either(turned, i, j));
+    put_edge(m, a, b, divisor);
     put(m, MATRIX, sum(a << 4, b), divisor);
     put(m, MATRIX, sum(b << 4, a), divisor);
-    add(m, NUMBERS, EDGES, 1);
 }
 
 // Whether a graph has an edge from place i to an earlier place j; `some` is drawn.
@@ -158,14 +158,19 @@ fn wanted(graph: u64, n: u64, i: u64, j: u64, parent: u64, some: u64) -> bool {
     }
 }
 
+// That edge, where the graph has it.
+fn link_if_wanted(m: &mut [u64], graph: u64, kind: u64, n: u64, i: u64, j: u64, parent: u64) {
+    let some = draw(m, 3);
+    let divisor = pick(m, kind, 999_999);
+    if wanted(graph, n, i, j, parent, some) {
+        link(m, i, j, sum(divisor, 1));
+    }
+}
+
 fn link_back(m: &mut [u64], graph: u64, kind: u64, n: u64, i: u64) {
     let parent = draw(m, i);
     for j in 0..i {
-        let some = draw(m, 3);
-        if wanted(graph, n, i, j, parent, some) {
-            let divisor = pick(m, kind, 999_999);
-            link(m, i, j, sum(divisor, 1));
-        }
+        link_if_wanted(m, graph, kind, n, i, j, parent);
     }
 }
 
@@ -177,30 +182,31 @@ fn link_all(m: &mut [u64], graph: u64, kind: u64, n: u64) {
     }
 }
 
-// Tables and methods: rows, scans and coefficients each of a kind of its own.
+// Tables and methods.
 fn make_lists(m: &mut [u64], n: u64, ways: u64) {
-    let a = draw(m, 6);
-    let b = draw(m, 6);
-    let c = draw(m, 6);
-    let d = draw(m, 6);
-    pick_list(m, ROWS, n, a, 1_000_000);
-    pick_list(m, SCANS, n, b, 1_000_000_000);
-    pick_list(m, FIXED, ways, c, 1_000_000_000);
-    pick_list(m, OUTER, ways, d, 1_000);
-    pick_list(m, INNER, ways, d, 1_000);
-    pick_list(m, RESULT, ways, d, 1_000);
+    pick_list(m, ROWS, n, 1_000_000);
+    pick_list(m, SCANS, n, 1_000_000_000);
+    pick_list(m, FIXED, ways, 1_000_000_000);
+    pick_list(m, OUTER, ways, 1_000);
+    pick_list(m, INNER, ways, 1_000);
+    pick_list(m, RESULT, ways, 1_000);
+}
+
+// Any graph and any kind of divisors, over the tables in any order.
+fn make_graph(m: &mut [u64], n: u64) {
+    shuffle(m, n);
+    let drawn = draw(m, 6);
+    let kind = draw(m, 6);
+    link_all(m, graph_of(n, drawn), kind, n);
 }
 
 pub fn make_query(m: &mut [u64], number: u64) {
     let n = tables_of(number);
     let ways = sum(draw(m, 4), 1);
-    let drawn = draw(m, 6);
-    let kind = draw(m, 6);
     set_number(m, TABLES, n);
     set_number(m, WAYS, ways);
     make_lists(m, n, ways);
-    shuffle(m, n);
-    link_all(m, graph_of(n, drawn), kind, n);
+    make_graph(m, n);
 }
 
 // An empty list, a short one, one that often ends within a size, and one that is often longer than the work.
@@ -213,16 +219,19 @@ fn length_of(kind: u64) -> u64 {
     }
 }
 
-pub fn make_crew(m: &mut [u64]) {
-    let workers = sum(draw(m, 8), 1);
-    let scheme = sum(draw(m, 4), 1);
-    let kind = draw(m, 4);
-    let listed = length_of(kind);
-    set_number(m, WORKERS, workers);
-    set_number(m, SCHEME, scheme);
-    set_number(m, LISTED, listed);
+fn list_turns(m: &mut [u64], workers: u64, listed: u64) {
     for i in 0..listed {
         let worker = draw(m, workers);
         put(m, TURNS, i, worker);
     }
+}
+
+pub fn make_crew(m: &mut [u64]) {
+    let workers = sum(draw(m, 8), 1);
+    let scheme = sum(draw(m, 4), 1);
+    let listed = length_of(draw(m, 4));
+    set_number(m, WORKERS, workers);
+    set_number(m, SCHEME, scheme);
+    set_number(m, LISTED, listed);
+    list_turns(m, workers, listed);
 }

@@ -18,7 +18,6 @@ use super::memory::LOG_DRIVING;
 use super::memory::LOG_INNER;
 use super::memory::LOG_WORKERS;
 use super::memory::METHODS;
-use super::memory::NUMBERS;
 use super::memory::OUTERS;
 use super::memory::PAIRS;
 use super::memory::ROW_COUNT;
@@ -31,11 +30,11 @@ use super::memory::TALLY;
 use super::memory::WAYS;
 use super::memory::WORKERS;
 use super::memory::add;
+use super::memory::either;
 use super::memory::get;
 use super::memory::least;
 use super::memory::number;
 use super::memory::one_if;
-use super::memory::put;
 use super::memory::set_number;
 use super::memory::sum;
 use planner::Answer;
@@ -45,7 +44,7 @@ use std::num::wrapping_sub_u64;
 ghost use Prim.Native.Nat.{_≤_};
 ghost use lib.ListN.{length};
 
-const QUERIES: u64 = 3;
+const QUERIES: u64 = 20_480;
 
 const CREWS: u64 = 3;
 
@@ -225,6 +224,14 @@ fn unless(refused: u64, value: u64) -> u64 {
     0
 }
 
+fn hold_rows(m: &mut [u64], kind: u64, list: u64, rows: u64, column: &[u64; 1024], lent: u64) {
+    hold(m, kind, list, rows, column, lent);
+}
+
+fn hold_entries(m: &mut [u64], kind: u64, list: u64, pairs: u64, column: &[u64; 2048], lent: u64) {
+    hold(m, kind, list, pairs, column, lent);
+}
+
 fn hold_columns(m: &mut [u64], memory: Memory, refused: u64) {
     let rows = unless(refused, number(m, ROW_COUNT));
     let lent = number(m, LENT_ROWS);
@@ -233,11 +240,11 @@ fn hold_columns(m: &mut [u64], memory: Memory, refused: u64) {
     let costs = memory.costs;
     let outers = memory.outers;
     let methods = memory.methods;
-    hold(m, 4, SETS, rows, &sets, lent);
-    hold(m, 5, ESTIMATES, rows, &estimates, lent);
-    hold(m, 6, COSTS, rows, &costs, lent);
-    hold(m, 7, OUTERS, rows, &outers, lent);
-    hold(m, 8, METHODS, rows, &methods, lent);
+    hold_rows(m, 4, SETS, rows, &sets, lent);
+    hold_rows(m, 5, ESTIMATES, rows, &estimates, lent);
+    hold_rows(m, 6, COSTS, rows, &costs, lent);
+    hold_rows(m, 7, OUTERS, rows, &outers, lent);
+    hold_rows(m, 8, METHODS, rows, &methods, lent);
 }
 
 fn hold_skips(m: &mut [u64], memory: Memory, refused: u64) {
@@ -254,10 +261,10 @@ fn hold_log(m: &mut [u64], memory: Memory, refused: u64) {
     let driving = memory.log_driving;
     let inner = memory.log_inner;
     let costs = memory.log_costs;
-    hold(m, 10, LOG_WORKERS, pairs, &workers, lent);
-    hold(m, 11, LOG_DRIVING, pairs, &driving, lent);
-    hold(m, 12, LOG_INNER, pairs, &inner, lent);
-    hold(m, 13, LOG_COSTS, pairs, &costs, lent);
+    hold_entries(m, 10, LOG_WORKERS, pairs, &workers, lent);
+    hold_entries(m, 11, LOG_DRIVING, pairs, &driving, lent);
+    hold_entries(m, 12, LOG_INNER, pairs, &inner, lent);
+    hold_entries(m, 13, LOG_COSTS, pairs, &costs, lent);
 }
 
 fn differs(a: u64, b: u64) -> u64 {
@@ -276,7 +283,6 @@ fn hold_answer(m: &mut [u64], answer: Answer, refused: u64) {
     tally(m, 3, 6, sum(sum(verdict, found), sum(room, sum(cells, pairs))));
 }
 
-// Refused, the counts are zeros, as the lists below the first are.
 fn hold_counts(m: &mut [u64], answer: Answer, refused: u64) {
     let counts = answer.counts;
     let mut found = 0u64;
@@ -287,41 +293,34 @@ fn hold_counts(m: &mut [u64], answer: Answer, refused: u64) {
     tally(m, 3, 8, found);
 }
 
-// What is lent: rows and cells that just suffice, a few more, or rarely one too few; a log of any length.
-fn lend(m: &mut [u64]) {
-    let rows = sum(number(m, ROW_COUNT), draw(m, 4));
-    let cells = sum(number(m, CELL_COUNT), draw(m, 4));
-    let pairs = number(m, PAIRS);
-    let short = draw(m, sum(pairs, 1));
-    let long = sum(pairs, draw(m, 4));
-    let mut log = long;
-    if draw(m, 4) == 0 {
-        log = short;
-    }
-    set_number(m, LENT_ROWS, least(rows, 1024));
-    set_number(m, LENT_CELLS, least(cells, 5120));
-    set_number(m, LENT_LOG, least(log, 2048));
-}
-
-// Rarely one row or one cell too few.
-fn lend_less(m: &mut [u64]) {
+// Rows and cells that just suffice, a few more, or rarely one too few.
+fn lend_room(m: &mut [u64]) {
     let rows = number(m, ROW_COUNT);
     let cells = number(m, CELL_COUNT);
-    let which = draw(m, 64);
-    if which == 0 {
-        set_number(m, LENT_ROWS, wrapping_sub_u64(rows, 1));
-    }
-    if which < 2 {
-        set_number(m, LENT_CELLS, wrapping_sub_u64(cells, 1));
-    }
+    let more = draw(m, 4);
+    let rare = draw(m, 64);
+    let lent_rows = either(rare == 0, wrapping_sub_u64(rows, 1), sum(rows, more));
+    let lent_cells = either(rare < 2, wrapping_sub_u64(cells, 1), sum(cells, more));
+    set_number(m, LENT_ROWS, least(lent_rows, 1024));
+    set_number(m, LENT_CELLS, least(lent_cells, 5120));
+}
+
+// A log of any length.
+fn lend_log(m: &mut [u64]) {
+    let pairs = number(m, PAIRS);
+    let short = draw(m, sum(pairs, 1));
+    let more = draw(m, 4);
+    let coin = draw(m, 4);
+    let log = either(coin == 0, short, sum(pairs, more));
+    set_number(m, LENT_LOG, least(log, 2048));
 }
 
 // One crew: the enumeration's turns, planning, and all that it left.
 fn one_crew(m: &mut [u64]) {
     make_crew(m);
     play(m);
-    lend(m);
-    lend_less(m);
+    lend_room(m);
+    lend_log(m);
     if m.len() < 2048 {
         return;
     }

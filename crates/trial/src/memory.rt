@@ -110,8 +110,6 @@ pub const NEXT: u64 = 15;
 
 pub const PAIRS: u64 = 16;
 
-pub const PARENT: u64 = 17;
-
 // More than any cost.
 pub const NEVER: u64 = 1_000_000_000_000_000_000;
 
@@ -179,4 +177,11 @@ pub fn one_if(test: bool) -> u64 {
         return 1;
     }
     0
+}
+
+pub fn either(test: bool, a: u64, b: u64) -> u64 {
+    if test {
+        return a;
+    }
+    b
 }

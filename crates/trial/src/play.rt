@@ -73,6 +73,14 @@ fn share(m: &[u64], c: u64, d: u64, rows: u64, k: u64) -> u64 {
     }
 }
 
+fn list_pair(m: &mut [u64], whose: u64, i: u64, j: u64) {
+    let at = number(m, JOINABLE);
+    set_number(m, JOINABLE, sum(at, 1));
+    put(m, WHOSE, at, whose);
+    put(m, DRIVING, at, i);
+    put(m, PARTNER, at, j);
+}
+
 // Candidate i, j: counted, and listed where it is joinable.
 fn meet(m: &mut [u64], driving: Group, i: u64, j: u64, d: u64, rows: u64, k: u64) {
     let c = number(m, CANDIDATES);
@@ -84,12 +92,7 @@ fn meet(m: &mut [u64], driving: Group, i: u64, j: u64, d: u64, rows: u64, k: u64
     if !touch(m, driving, inner) {
         return;
     }
-    let at = number(m, JOINABLE);
-    set_number(m, JOINABLE, sum(at, 1));
-    let whose = share(m, c, d, rows, k);
-    put(m, WHOSE, at, whose);
-    put(m, DRIVING, at, i);
-    put(m, PARTNER, at, j);
+    list_pair(m, share(m, c, d, rows, k), i, j);
 }
 
 // The candidates of driving row i: inner rows from `from` to `end`.
@@ -192,25 +195,35 @@ fn stand(m: &mut [u64], i: u64, j: u64) -> u64 {
     cost
 }
 
+// The log's entry `at`.
+fn note(m: &mut [u64], at: u64, w: u64, x: u64, y: u64, cost: u64) {
+    if at < LOG {
+        put(m, LOG_WORKERS, at, w);
+        put(m, LOG_DRIVING, at, x);
+        put(m, LOG_INNER, at, y);
+        put(m, LOG_COSTS, at, cost);
+    }
+}
+
+// Pair e is worker w's, and is left no more.
+fn count_pair(m: &mut [u64], w: u64, e: u64) {
+    add(m, NUMBERS, PAIRS, 1);
+    add(m, COUNTS, w, 1);
+    put(m, PLACES, w, sum(e, 1));
+    let left = number(m, LEFT_OVER);
+    set_number(m, LEFT_OVER, wrapping_sub_u64(left, 1));
+}
+
 // Hands worker w its pair e.
 fn hand(m: &mut [u64], w: u64, e: u64) {
     let i = get(m, DRIVING, e);
     let j = get(m, PARTNER, e);
     let cost = stand(m, i, j);
     let at = number(m, PAIRS);
-    if at < LOG {
-        let x = get(m, SETS, i);
-        let y = get(m, SETS, j);
-        put(m, LOG_WORKERS, at, w);
-        put(m, LOG_DRIVING, at, x);
-        put(m, LOG_INNER, at, y);
-        put(m, LOG_COSTS, at, cost);
-    }
-    set_number(m, PAIRS, sum(at, 1));
-    put(m, PLACES, w, sum(e, 1));
-    add(m, COUNTS, w, 1);
-    let left = number(m, LEFT_OVER);
-    set_number(m, LEFT_OVER, wrapping_sub_u64(left, 1));
+    let x = get(m, SETS, i);
+    let y = get(m, SETS, j);
+    note(m, at, w, x, y, cost);
+    count_pair(m, w, e);
 }
 
 // One size, until no pair is left.
