@@ -7,9 +7,7 @@ pub struct Group {
 }
 
 pub fn nobody() -> Group {
-    Group {
-        flags: [false; 16],
-    }
+    Group { flags: [false; 16] }
 }
 
 pub fn has(group: Group, t: u64) -> bool {

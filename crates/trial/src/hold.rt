@@ -37,9 +37,9 @@ use super::memory::number;
 use super::memory::one_if;
 use super::memory::set_number;
 use super::memory::sum;
+use super::play::play;
 use planner::Answer;
 use planner::plan;
-use super::play::play;
 use std::num::wrapping_sub_u64;
 ghost use Prim.Native.Nat.{_≤_};
 ghost use lib.ListN.{length};
@@ -280,7 +280,12 @@ fn hold_answer(m: &mut [u64], answer: Answer, refused: u64) {
     let room = differs(answer.rows, unless(refused, rows));
     let cells = differs(answer.cells, unless(refused, number(m, CELL_COUNT)));
     let pairs = differs(answer.pairs, unless(refused, number(m, PAIRS)));
-    tally(m, 3, 6, sum(sum(verdict, found), sum(room, sum(cells, pairs))));
+    tally(
+        m,
+        3,
+        6,
+        sum(sum(verdict, found), sum(room, sum(cells, pairs))),
+    );
 }
 
 fn hold_counts(m: &mut [u64], answer: Answer, refused: u64) {
@@ -315,20 +320,22 @@ fn lend_log(m: &mut [u64]) {
     set_number(m, LENT_LOG, least(log, 2048));
 }
 
-// One crew: the enumeration's turns, planning, and all that it left.
-fn one_crew(m: &mut [u64]) {
+// A crew, its turns by the enumeration, and what is lent to planning.
+fn prepare(m: &mut [u64]) {
     make_crew(m);
     play(m);
     lend_room(m);
     lend_log(m);
-    if m.len() < 2048 {
-        return;
-    }
-    let memory = plan_parts(m);
-    let refused = refusal(m);
-    let answer = memory.answer;
+}
+
+fn count_plan(m: &mut [u64], refused: u64) {
     add(m, TALLY, 1, 1);
     add(m, TALLY, 2, one_if(refused != 0));
+}
+
+// All that planning answered and left.
+fn hold_all(m: &mut [u64], memory: Memory, refused: u64) {
+    let answer = memory.answer;
     hold_answer(m, answer, refused);
     hold_counts(m, answer, refused);
     hold_columns(m, memory, refused);
@@ -336,13 +343,28 @@ fn one_crew(m: &mut [u64]) {
     hold_log(m, memory, refused);
 }
 
+fn one_crew(m: &mut [u64]) {
+    prepare(m);
+    if m.len() < 2048 {
+        return;
+    }
+    let memory = plan_parts(m);
+    let refused = refusal(m);
+    count_plan(m, refused);
+    hold_all(m, memory, refused);
+}
+
+fn all_crews(m: &mut [u64]) {
+    for k in 0..CREWS {
+        one_crew(m);
+    }
+}
+
 fn one_query(m: &mut [u64], number: u64) {
     make_query(m, number);
     put_rows(m);
     put_skips(m);
-    for k in 0..CREWS {
-        one_crew(m);
-    }
+    all_crews(m);
     add(m, TALLY, 0, 1);
 }
 

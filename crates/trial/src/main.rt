@@ -8,6 +8,7 @@ mod generate;
 mod hold;
 mod memory;
 mod play;
+
 use memory::TALLY;
 use memory::get;
 
@@ -20,23 +21,27 @@ fn print_line(name: &[u8], number: u64) {
     io::write_all(STDOUT, b"\n");
 }
 
+fn report(m: &[u64]) {
+    print_line(b"queries", get(m, TALLY, 0));
+    print_line(b"plans", get(m, TALLY, 1));
+    print_line(b"refused", get(m, TALLY, 2));
+    print_line(b"answers", get(m, TALLY, 3));
+    print_line(b"sets", get(m, TALLY, 4));
+    print_line(b"estimates", get(m, TALLY, 5));
+    print_line(b"costs", get(m, TALLY, 6));
+    print_line(b"outers", get(m, TALLY, 7));
+    print_line(b"methods", get(m, TALLY, 8));
+    print_line(b"skip cells", get(m, TALLY, 9));
+    print_line(b"log workers", get(m, TALLY, 10));
+    print_line(b"log driving sets", get(m, TALLY, 11));
+    print_line(b"log inner sets", get(m, TALLY, 12));
+    print_line(b"log costs", get(m, TALLY, 13));
+    print_line(b"comparisons", get(m, TALLY, 14));
+    print_line(b"differences", get(m, TALLY, 15));
+}
+
 fn main() {
     let mut m = [0u64; 65536];
     hold::all_queries(&mut m);
-    print_line(b"queries", get(&m, TALLY, 0));
-    print_line(b"plans", get(&m, TALLY, 1));
-    print_line(b"refused", get(&m, TALLY, 2));
-    print_line(b"answers", get(&m, TALLY, 3));
-    print_line(b"sets", get(&m, TALLY, 4));
-    print_line(b"estimates", get(&m, TALLY, 5));
-    print_line(b"costs", get(&m, TALLY, 6));
-    print_line(b"outers", get(&m, TALLY, 7));
-    print_line(b"methods", get(&m, TALLY, 8));
-    print_line(b"skip cells", get(&m, TALLY, 9));
-    print_line(b"log workers", get(&m, TALLY, 10));
-    print_line(b"log driving sets", get(&m, TALLY, 11));
-    print_line(b"log inner sets", get(&m, TALLY, 12));
-    print_line(b"log costs", get(&m, TALLY, 13));
-    print_line(b"comparisons", get(&m, TALLY, 14));
-    print_line(b"differences", get(&m, TALLY, 15));
+    report(&m);
 }

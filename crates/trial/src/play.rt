@@ -226,6 +226,16 @@ fn hand(m: &mut [u64], w: u64, e: u64) {
     count_pair(m, w, e);
 }
 
+// One turn: its worker's next pair, or nothing.
+fn take_turn(m: &mut [u64]) {
+    let w = whose_turn(m);
+    if !look(m, w) {
+        return;
+    }
+    let e = get(m, PLACES, w);
+    hand(m, w, e);
+}
+
 // One size, until no pair is left.
 fn play_size(m: &mut [u64], size: u64) {
     open(m, size);
@@ -234,11 +244,7 @@ fn play_size(m: &mut [u64], size: u64) {
         if number(m, LEFT_OVER) == 0 {
             return;
         }
-        let w = whose_turn(m);
-        if look(m, w) {
-            let e = get(m, PLACES, w);
-            hand(m, w, e);
-        }
+        take_turn(m);
     }
 }
 
