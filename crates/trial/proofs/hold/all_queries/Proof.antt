@@ -1,0 +1,51 @@
+use mathlib.Core.Path.{_≡_}
+use lib.ListN.{length}
+use Prim.Native.Nat.{_-_}
+use borrow.Author.Needs.{needs}
+use Rattle.trial.proofs.hold.all_queries.Statement.{statement}
+use Rattle.trial.proofs.hold.all_queries.Tie as tie
+
+abbrev Inv-loop : tie.InvT-loop
+Inv-loop m₀ number₀ m number = length m ≡ length m₀
+
+abbrev μ-loop : tie.MeasureT-loop
+μ-loop m₀ number₀ m number = 20480 - number
+
+set-number-requires : tie.Need-set-number-requires Inv-loop μ-loop
+set-number-requires c κs = search needs
+
+loop-holds : tie.Need-loop-holds Inv-loop μ-loop
+loop-holds c = search needs
+
+one-query-requires : tie.Need-one-query-requires Inv-loop μ-loop
+one-query-requires c κs = search needs
+
+add-number : tie.Need-add-number Inv-loop μ-loop
+add-number c = search needs
+
+loop-less : tie.Need-loop-less Inv-loop μ-loop
+loop-less c = search needs
+
+loop-again : tie.Need-loop-again Inv-loop μ-loop
+loop-again c = search needs
+
+same-length : tie.Need-same-length Inv-loop μ-loop
+same-length c = search needs
+
+returns : tie.Need-returns Inv-loop μ-loop
+returns c = search needs
+
+pub all-queries-spec : {M : Type 1} → statement M
+all-queries-spec =
+    tie.close
+    (tie.spec
+    Inv-loop
+    μ-loop
+    set-number-requires
+    loop-holds
+    one-query-requires
+    add-number
+    loop-less
+    loop-again
+    same-length
+    returns)

@@ -1,0 +1,47 @@
+// Generated queries, planned under several crews, and held cell by cell to an enumeration of its own, which shares no code with the
+// planner. A set is an array of flags. Up to seven tables a cost is the least over all trees, by recursion over all splits with no
+// memo; from eight on, by splits. A skip value is found by looking at each later row, a share by listing all candidates, the log by
+// playing the turns on those lists. Prints counts only.
+mod enumerate;
+mod flags;
+mod generate;
+mod hold;
+mod memory;
+mod play;
+
+use memory::TALLY;
+use memory::get;
+
+const STDOUT: i32 = 1;
+
+fn print_line(name: &[u8], number: u64) {
+    io::write_all(STDOUT, name);
+    io::write_all(STDOUT, b" ");
+    io::print_decimal(STDOUT, number);
+    io::write_all(STDOUT, b"\n");
+}
+
+fn report(m: &[u64]) {
+    print_line(b"queries", get(m, TALLY, 0));
+    print_line(b"plans", get(m, TALLY, 1));
+    print_line(b"refused", get(m, TALLY, 2));
+    print_line(b"answers", get(m, TALLY, 3));
+    print_line(b"sets", get(m, TALLY, 4));
+    print_line(b"estimates", get(m, TALLY, 5));
+    print_line(b"costs", get(m, TALLY, 6));
+    print_line(b"outers", get(m, TALLY, 7));
+    print_line(b"methods", get(m, TALLY, 8));
+    print_line(b"skip cells", get(m, TALLY, 9));
+    print_line(b"log workers", get(m, TALLY, 10));
+    print_line(b"log driving sets", get(m, TALLY, 11));
+    print_line(b"log inner sets", get(m, TALLY, 12));
+    print_line(b"log costs", get(m, TALLY, 13));
+    print_line(b"comparisons", get(m, TALLY, 14));
+    print_line(b"differences", get(m, TALLY, 15));
+}
+
+fn main() {
+    let mut m = [0u64; 65536];
+    hold::all_queries(&mut m);
+    report(&m);
+}
