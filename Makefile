@@ -7,7 +7,7 @@
 # make faults       faults put into the reference, each of which the comparison must find
 # make fuzz         libFuzzer over the same, SECONDS long (needs clang)
 # make bench        the library beside native planners in C (bench/README.md); ROW="clique 12" for those rows alone
-.PHONY: run test lib harness engine c-tests compare soak faults fuzz bench
+.PHONY: run test lib harness engine c-tests examples compare soak faults fuzz bench
 
 CFLAGS = -std=c11 -O2 -Wall -Wextra -Werror -Iinclude
 LIBRARY = target/staticlib/libbutirampol.a
@@ -33,7 +33,8 @@ test:
 lib:
 	@mkdir -p target && rt staticlib butirampol >target/staticlib.log 2>&1 || { cat target/staticlib.log; exit 1; }
 
-harness:
+# after `lib`: the two would write to one target/ at once
+harness: lib
 	@mkdir -p target && rt staticlib harness >target/harness.log 2>&1 || { cat target/harness.log; exit 1; }
 
 target/engine: examples/engine.c include/butirampol.h lib
@@ -56,9 +57,10 @@ engine: target/engine
 	@target/engine examples/worked.txt
 
 # what `rt ci` does not see: the compiled library behind its C header
-c-tests: target/engine target/buffers target/stack target/compare
+c-tests: examples compare
+
+examples: target/engine target/buffers target/stack
 	@tests/examples
-	@$(SHORT)
 
 compare: target/compare
 	@$(SHORT)
