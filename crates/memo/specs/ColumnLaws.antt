@@ -1,13 +1,18 @@
 -- Laws of columns: one more store.
 use mathlib.Core.Path.{_≡_, refl, sym, ap, _∙_}
 use mathlib.Core.List.{List, [], _∷_, _++_, map, map-append}
-use Prim.Native.Nat.{ℕ, zero, suc, _+_, _<_}
+use Prim.Native.Nat.{ℕ, zero, suc, _+_, _*_, _≤_, _<_}
+use native.Mathlib.Nat.{mul-le-mul}
 use native.Mathlib.Decide.{decLt}
 use native.Mathlib.Omega.{arith}
 use native.Mathlib.Numerals.{add-one}
-use lib.ListN.{length, getD, set, take, length-append, length-take, replicate, length-replicate, replicate-append-replicate, List·getD-append}
+use lib.ListN.{length, getD, set, take, length-append, length-take, replicate, length-replicate, getD-replicate, replicate-append-replicate, List·getD-append, List·getD-eq-default}
 use lib.Seq.{take-suc, set-comm, getD-at}
+use Rattle.rules.specs.Limits.{maxTables}
+use Rattle.rules.specs.Query.{Graph, tableCount}
+use Rattle.rules.specs.Rows.{rowsOf}
 use Rattle.rules.specs.laws.Lists.{length-map}
+use Rattle.rows.specs.WalkLaws.{rows-fit}
 use Rattle.skips.specs.Vectors.{written}
 use Rattle.memo.specs.Layout.{countsTo}
 
@@ -35,6 +40,20 @@ pub zeros-more : (d : List ℕ) (i : ℕ) {l : List ℕ} → l ≡ written d 0 (
 zeros-more d i e =
     let z : ℕ = 0 in
     rw e (written-push d 0 i (replicate i 0) 0 (omega (arith, length-replicate i z)) ∙ ap (written d 0) (replicate-append-replicate i 1 0))
+
+-- a list of zeros alone
+pub zero-cells : (n m k : ℕ) → k ≤ m → getD (replicate n 0) k 0 ≡ 0
+zero-cells n m k l = go (decLt k n)
+  where
+    go : Dec (k < n) → getD (replicate n 0) k 0 ≡ 0
+    go (yes h) = getD-replicate n k 0 0 h
+    go (no h) = let z : ℕ = 0 in List·getD-eq-default (replicate n 0) 0 (omega (arith, length-replicate n z))
+
+-- how many rows and cells a size has, at most
+pub count-fits : (g : Graph) (k : ℕ) {r : ℕ} → k < tableCount g → tableCount g ≤ maxTables → r ≡ length (rowsOf g (k + 1)) → (r ≤ 65536) × (r * (k + 1) ≤ 1048576)
+count-fits g k {r} l few e =
+    let fit : r ≤ 65536 = omega (arith, e, rows-fit g (k + 1) few) in
+    (fit, omega (arith, mul-le-mul {n₁ = r} {m₁ = k + 1} {n₂ = 65536} {m₂ = 16} fit (omega arith)))
 
 -- ---- where each size begins, by f: how many rows, or cells, have the sizes 1 to k
 module _ (f : ℕ → ℕ) where

@@ -81,6 +81,9 @@ pub record NextSize (g : Graph) (k from count at : ℕ) (s : List ℕ) : Type 0 
   pub many : count ≡ length (rowsOf g (k + 1))
   pub cells-begin : at ≡ length (cellsTo g k)
 
+pub next-size : (g : Graph) (k from count at : ℕ) (s : List ℕ) → tableCount g ≤ maxTables → k < tableCount g → take (length (memo g)) s ≡ memo g → from ≡ length (upTo g k) → count ≡ length (rowsOf g (k + 1)) → at ≡ length (cellsTo g k) → NextSize g k from count at s
+next-size g k from count at s a b c d e f = record { few = a; more = b; all-rows = c; begins = d; many = e; cells-begin = f }
+
 module _ {g : Graph} {k from count at : ℕ} {s : List ℕ} (z : NextSize g k from count at s) where
   pub rows-next : from + count ≡ length (upTo g (k + 1))
   rows-next = omega (arith, length-more g k)

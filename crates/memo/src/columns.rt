@@ -9,7 +9,10 @@ ghost use Rattle.rules.specs.Estimate.{estimate};
 ghost use Rattle.skips.specs.Vectors.{written};
 ghost use Rattle.memo.specs.Layout.{starts, cellStarts};
 use query::estimate::estimate;
-use rows::count_size;
+use rows::tally::tally;
+
+// Room for a number of each size: sizes 0 to N, of at most 16 tables.
+pub const SIZES: usize = 17;
 
 // Writes the estimates of the first `count` sets.
 pub fn lay_estimates(
@@ -54,12 +57,14 @@ pub fn lay_starts(
     ensures firsts { λ _. ⌜ now (firsts .exit) ≡ written (now (firsts .entry)) 0 (starts (graphOf (now (rows .entry)) (now (left .entry)) (now (right .entry)) (now (divisors .entry)))) ⌝ }
     ensures cells { λ _. ⌜ now (cells .exit) ≡ written (now (cells .entry)) 0 (cellStarts (graphOf (now (rows .entry)) (now (left .entry)) (now (right .entry)) (now (divisors .entry)))) ⌝ }
 {
+    let mut counts = [0usize; SIZES];
+    tally(rows, left, right, divisors, &mut counts);
     let mut row = 0usize;
     let mut cell = 0usize;
     for k in 0..rows.len() {
         firsts[k + 1] = row;
         cells[k + 1] = cell;
-        let count = count_size(rows, left, right, divisors, k as u64 + 1);
+        let count = counts[k + 1];
         row += count;
         cell += count * (k + 1);
     }

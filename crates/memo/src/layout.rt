@@ -6,14 +6,16 @@ ghost use Rattle.rules.specs.Query.{graphOf};
 ghost use Rattle.rules.specs.Checked.{GoodGraph};
 ghost use Rattle.rules.specs.Rows.{memo};
 ghost use Rattle.rules.specs.Skips.{skips};
+ghost use Rattle.rows.specs.Near.{Tally};
 ghost use Rattle.skips.specs.Vectors.{written};
 ghost use Rattle.memo.specs.Layout.{lent, OneLength, Room, laid, answered, LaidOut};
 use super::columns::lay_estimates;
 use super::columns::lay_zeros;
-use rows::count_cells;
-use rows::count_rows;
-use rows::count_size;
-use rows::lay_sets;
+use super::columns::SIZES;
+use rows::fill::lay_sets;
+use rows::tally::all_cells;
+use rows::tally::all_rows;
+use rows::tally::tally;
 use skips::fill_vectors;
 
 // What laying out answers: 0 or the refusal's number, and how many rows and cells there are, 0 where refused.
@@ -33,16 +35,18 @@ fn answer(refusal: u64, rows: usize, cells: usize) -> Laid
     }
 }
 
-// Writes the skip vectors of all sizes, in memo order; `sets` begins with the sets of all rows.
+// Writes the skip vectors of all sizes, in memo order; `sets` begins with the sets of all rows, `counts` is their tally.
 fn lay_skips(
     rows: &[u64],
     left: &[u64],
     right: &[u64],
     divisors: &[u64],
+    counts: &[usize],
     sets: &[u64],
     out: &mut [u64],
 )
     requires { ⌜ GoodGraph (graphOf (now rows) (now left) (now right) (now divisors)) ⌝ }
+    requires { ⌜ Tally (graphOf (now rows) (now left) (now right) (now divisors)) (now counts) ⌝ }
     requires { ⌜ take (length (memo (graphOf (now rows) (now left) (now right) (now divisors)))) (now sets) ≡ memo (graphOf (now rows) (now left) (now right) (now divisors)) ⌝ }
     requires { ⌜ length (skips (graphOf (now rows) (now left) (now right) (now divisors))) ≤ length (now out) ⌝ }
     ensures { λ _. ⌜ now (out .exit) ≡ written (now (out .entry)) 0 (skips (graphOf (now (rows .entry)) (now (left .entry)) (now (right .entry)) (now (divisors .entry)))) ⌝ }
@@ -50,19 +54,20 @@ fn lay_skips(
     let mut from = 0usize;
     let mut at = 0usize;
     for k in 0..rows.len() {
-        let count = count_size(rows, left, right, divisors, k as u64 + 1);
+        let count = counts[k + 1];
         fill_vectors(sets, from, from + count, k + 1, out, at);
         from += count;
         at += count * (k + 1);
     }
 }
 
-// Writes every column and the skip cells; `count` is the number of rows.
+// Writes every column and the skip cells; `counts` is the tally of the rows, `count` their number.
 fn lay_columns(
     rows: &[u64],
     left: &[u64],
     right: &[u64],
     divisors: &[u64],
+    counts: &[usize],
     count: usize,
     sets: &mut [u64],
     estimates: &mut [u64],
@@ -74,15 +79,16 @@ fn lay_columns(
     requires { ⌜ GoodGraph (graphOf (now rows) (now left) (now right) (now divisors)) ⌝ }
     requires { ⌜ OneLength (lent (now sets) (now estimates) (now costs) (now outers) (now methods) (now skips)) ⌝ }
     requires { ⌜ Room (graphOf (now rows) (now left) (now right) (now divisors)) (lent (now sets) (now estimates) (now costs) (now outers) (now methods) (now skips)) ⌝ }
+    requires { ⌜ Tally (graphOf (now rows) (now left) (now right) (now divisors)) (now counts) ⌝ }
     requires { ⌜ count ≡ length (memo (graphOf (now rows) (now left) (now right) (now divisors))) ⌝ }
     ensures { λ _. ⌜ lent (now (sets .exit)) (now (estimates .exit)) (now (costs .exit)) (now (outers .exit)) (now (methods .exit)) (now (skips .exit)) ≡ laid (graphOf (now (rows .entry)) (now (left .entry)) (now (right .entry)) (now (divisors .entry))) (lent (now (sets .entry)) (now (estimates .entry)) (now (costs .entry)) (now (outers .entry)) (now (methods .entry)) (now (skips .entry))) ⌝ }
 {
-    lay_sets(rows, left, right, divisors, sets);
+    lay_sets(rows, left, right, divisors, counts, sets);
     lay_estimates(rows, left, right, divisors, sets, count, estimates);
     lay_zeros(count, costs);
     lay_zeros(count, outers);
     lay_zeros(count, methods);
-    lay_skips(rows, left, right, divisors, sets, skips);
+    lay_skips(rows, left, right, divisors, counts, sets, skips);
 }
 
 // Lays out the memo, or answers refusal 13 or 14 where a lent list is too short; nothing is written before both counts have passed.
@@ -102,11 +108,13 @@ pub fn lay_out(
     requires { ⌜ OneLength (lent (now sets) (now estimates) (now costs) (now outers) (now methods) (now skips)) ⌝ }
     ensures { λ r. ⌜ LaidOut (graphOf (now (rows .entry)) (now (left .entry)) (now (right .entry)) (now (divisors .entry))) (lent (now (sets .entry)) (now (estimates .entry)) (now (costs .entry)) (now (outers .entry)) (now (methods .entry)) (now (skips .entry))) (lent (now (sets .exit)) (now (estimates .exit)) (now (costs .exit)) (now (outers .exit)) (now (methods .exit)) (now (skips .exit))) r ⌝ }
 {
-    let count = count_rows(rows, left, right, divisors);
+    let mut counts = [0usize; SIZES];
+    tally(rows, left, right, divisors, &mut counts);
+    let count = all_rows(rows, left, right, divisors, &counts);
     if sets.len() < count {
         return answer(13, 0, 0);
     }
-    let cells = count_cells(rows, left, right, divisors);
+    let cells = all_cells(rows, left, right, divisors, &counts);
     if skips.len() < cells {
         return answer(14, 0, 0);
     }
@@ -115,6 +123,7 @@ pub fn lay_out(
         left,
         right,
         divisors,
+        &counts,
         count,
         sets,
         estimates,

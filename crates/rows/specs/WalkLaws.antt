@@ -4,7 +4,7 @@ use mathlib.Core.Logic.{_⊎_, inl, inr}
 use mathlib.Core.Bool.{Bool, true, false, cond, not}
 use mathlib.Core.List.{List, [], _∷_, _++_, map, map-append, List·Memᴰ, List·Memᴰ·head, List·Memᴰ·tail, Memᴰ·of-map}
 use Prim.Native.Nat.{ℕ, zero, suc, _+_, _-_, _*_, _^_, _≤_, _<_, _/_}
-use native.Mathlib.Nat.{pow-suc, zero-add, mul-suc, mul-le-mul}
+use native.Mathlib.Nat.{pow-suc, mul-suc, mul-le-mul}
 use native.Mathlib.Numerals.{add-one, sub-one}
 use native.Mathlib.Decide.{decLt}
 use native.Mathlib.Omega.{arith}
@@ -22,12 +22,11 @@ use Rattle.rules.specs.Rows.{combos, sequences, rowsOf, memo}
 use Rattle.rules.specs.Skips.{skips}
 use Rattle.rules.specs.laws.Bools.{true-or-false, not-both, yes-true}
 use Rattle.rules.specs.laws.Lists.{length-map, row-last, sum, sum-append}
-use Rattle.rules.specs.laws.Sets.{bit, bit-le, holds-bit, holds-none, holds-pos, holds-lt, holds-sum, holds-apart, holds-minus, holds-single, holds-single-only, disjoint-of-bits, union-of}
-use Rattle.rules.specs.laws.Connected.{Within, connected-single}
-use Rattle.rules.specs.laws.Decide.{connected?, betweenIn, between-of}
+use Rattle.rules.specs.laws.Sets.{bit, bit-le, holds-bit, holds-none, holds-pos, holds-lt, holds-sum, holds-apart, holds-single-only, disjoint-of-bits, union-of}
+use Rattle.rules.specs.laws.Connected.{Within}
+use Rattle.rules.specs.laws.Decide.{connected?}
 use Rattle.rules.specs.laws.Rows.{rows-only, combos-only}
 use Rattle.rules.specs.laws.Skips.{cells-sizes}
-use Rattle.query.specs.ConnectedLaws.{Part, Grown}
 use Rattle.rows.specs.Walk.{walk, upTo, onward, Apart}
 
 -- ---- what passes
@@ -113,11 +112,6 @@ module _ (g : Graph) (N : ℕ) where
       let m : N + 1 - t ≡ suc (N + 1 - (t + 1)) = omega arith in
       rw (m, add-one t, sub-one (suc k), e) (one-step g k t (N + 1 - suc t) chosen)
 
-  pub length-step : (k t chosen x : ℕ) → 0 < k → t ≤ N → x ≡ single t
-      → length (walk g k t (N + 1 - t) chosen) ≡ length (walk g (k - 1) (t + 1) (N + 1 - (t + 1)) (chosen + x)) + length (walk g k (t + 1) (N + 1 - (t + 1)) chosen)
-  length-step k t chosen x p h e =
-      ap length (walk-step k t chosen x p h e) ∙ length-append (walk g (k - 1) (t + 1) (N + 1 - (t + 1)) (chosen + x)) (walk g k (t + 1) (N + 1 - (t + 1)) chosen)
-
 -- ---- few enough for a count
 length-combos : (k t n : ℕ) → length (combos k t n) ≤ 2 ^ n
 unfolding combos
@@ -199,27 +193,6 @@ module _ (g : Graph) where
   pub length-more : (k : ℕ) → length (upTo g (k + 1)) ≡ length (upTo g k) + length (rowsOf g (k + 1))
   length-more k = ap length (upTo-more k) ∙ length-append (upTo g k) (rowsOf g (k + 1))
 
--- fewer sizes, fewer rows
-upTo-le : (g : Graph) (k n : ℕ) → length (upTo g k) ≤ length (upTo g (k + n))
-upTo-le g k zero = let e : k + 0 ≡ k = omega arith in omega (arith, ap (λ (x : ℕ). length (upTo g x)) e)
-upTo-le g k (suc n) =
-    let e : k + suc n ≡ k + n + 1 = omega arith in
-    omega (arith, upTo-le g k n, length-more g (k + n), ap (λ (x : ℕ). length (upTo g x)) e)
-
--- there is room for one size more
-pub upTo-room : (g : Graph) (k : ℕ) → k < tableCount g → length (upTo g k) + length (walk g (k + 1) 1 (tableCount g + 1 - 1) 0) ≤ length (memo g)
-upTo-room g k l =
-    let e : k + 1 + (tableCount g - (k + 1)) ≡ tableCount g = omega arith in
-    omega (arith, ap length (rows-start g (k + 1)), length-more g k, upTo-le g (k + 1) (tableCount g - (k + 1)), ap length (upTo-end g (k + 1 + (tableCount g - (k + 1))) e))
-
--- and they are written after those of the smaller sizes
-pub wrote-more : (g : Graph) (k : ℕ) (old : List ℕ) {mid new : List ℕ} {at : ℕ} → at ≡ length (upTo g k) → mid ≡ sets old 0 (upTo g k) → new ≡ sets mid at (walk g (k + 1) 1 (tableCount g + 1 - 1) 0)
-    → new ≡ sets old 0 (upTo g (k + 1))
-wrote-more g k old e m h =
-    wrote-both old 0 (upTo g k) (walk g (k + 1) 1 (tableCount g + 1 - 1) 0) (e ∙ sym (zero-add (length (upTo g k)))) m h
-    ∙ ap (λ (l : List ℕ). sets old 0 (upTo g k ++ l)) (rows-start g (k + 1))
-    ∙ ap (sets old 0) (sym (upTo-more g k))
-
 -- ---- skip cells
 sum-same : (k : ℕ) (xs : List ℕ) → ((S : ℕ) → List·Memᴰ S xs → size S ≡ k) → sum (map size xs) ≡ k * length xs
 unfolding sum
@@ -250,7 +223,7 @@ module _ (g : Graph) where
   cells-fit k r l few e = mul-le-mul {n₁ = k + 1} {m₁ = r} {n₂ = 16} {m₂ = 65536} (omega arith) (omega (arith, rows-fit g (k + 1) few))
 
 -- ---- chosen tables that cannot be joined any more
-apart-tables : (a b : ℕ) → ((u : ℕ) → holds a u ≡ 1 → holds b u ≡ 1 → ⊥) → Disjoint a b
+pub apart-tables : (a b : ℕ) → ((u : ℕ) → holds a u ≡ 1 → holds b u ≡ 1 → ⊥) → Disjoint a b
 apart-tables a b n = disjoint-of-bits a b (λ i. go i (decLt 0 (bit i a)) (decLt 0 (bit i b)))
   where
     go : (i : ℕ) → Dec (0 < bit i a) → Dec (0 < bit i b) → bit i a + bit i b ≤ 1
@@ -259,7 +232,7 @@ apart-tables a b n = disjoint-of-bits a b (λ i. go i (decLt 0 (bit i a)) (decLt
     go i (no z) r = omega (arith, bit-le i b)
 
 -- a walk in a part of A that goes from X to Y has an edge from X to Y
-crossing : {g : Graph} {A X Y S a b : ℕ} → Splits A X Y → Within S A → holds X a ≡ 1 → Walk g S a b → holds Y b ≡ 1 → Between g X Y
+pub crossing : {g : Graph} {A X Y S a b : ℕ} → Splits A X Y → Within S A → holds X a ≡ 1 → Walk g S a b → holds Y b ≡ 1 → Between g X Y
 unfolding Within
 crossing {g} {A} {X} {Y} {S} {a} {b} p w ha (here e h) hb = absurd (omega (arith, holds-apart X Y b (p .apart), rw e at ha))
 crossing {g} {A} {X} {Y} {S} {a} {b} p w ha (step {b = c} r l h) hb = go (λ hc. crossing p w ha r hc) (decLt 0 (holds X c))
@@ -275,40 +248,9 @@ crossing {g} {A} {X} {Y} {S} {a} {b} p w ha (step {b = c} r l h) hb = go (λ hc.
     go ih (yes z) = record { from = c; to = b; from-in = omega (arith, holds-apart X Y c (p .apart), union-of p c); to-in = hb; linked = l }
     go ih (no z) = ih (omega (arith, union-of p c, inside))
 
--- f is connected and has a chosen table; where no edge leads on in A and a chosen table lies outside f, no connected set has both
-pub apart-stuck : (g : Graph) (chosen A a f r : ℕ) → holds chosen a ≡ 1 → holds f a ≡ 1 → Part g A f → Grown g A f (betweenIn (g .left) (g .right) f (A - f)) r → r ≡ f → (Disjoint chosen (A - f) → ⊥) → Apart g chosen A
-apart-stuck g chosen A a f r hc hf p h e n = record { none = λ S c w v. n (apart-tables chosen (A - f) (λ u hu ho. blocked (across S c w v u hu ho))) }
-  where
-    blocked : Between g f (A - f) → ⊥
-    blocked b = not-both (betweenIn (g .left) (g .right) f (A - f)) (between-of g f (A - f) b) (h .still e)
-
-    across : (S : ℕ) → Connected g S → Within chosen S → Within S A → (u : ℕ) → holds chosen u ≡ 1 → holds (A - f) u ≡ 1 → Between g f (A - f)
-    across S c w v u hu ho = crossing (p .splits) v hf (c .walks a u (unfold Within in (w a hc)) (unfold Within in (w u hu))) ho
-
-table-pos : (S t : ℕ) → holds S t ≡ 1 → 0 < t
-table-pos S zero h = absurd (omega (arith, holds-none S))
-table-pos S (suc i) h = omega arith
-
--- the part starts with one chosen table, which stays in it
-part-from : (g : Graph) (A t : ℕ) → A < 2 ^ tableCount g → holds A t ≡ 1 → Part g A (single t)
-part-from g A t l h =
-    let r = holds-lt (tableCount g) A t l h in
-    record { connected = connected-single g t (record { from-one = r .0; to-count = r .1 }); splits = holds-minus A t h }
-
 -- ---- the code's forms
 pub all-fits : (n A : ℕ) → n ≤ maxTables → A < 2 ^ n → A < 65536
 all-fits n A h l = omega (arith, pow-mono {i = n} {j = 16} h)
-
-pub chosen-table : (n chosen rest t : ℕ) → n ≤ maxTables → chosen + rest < 2 ^ n → holds chosen t ≡ 1 → (1 ≤ t) × (t ≤ 32)
-chosen-table n chosen rest t h l i = let r = holds-lt n chosen t (omega arith) i in (r .0, omega (arith, r .1))
-
--- x is the set of a chosen table alone
-pub first-part : (g : Graph) (chosen rest t x : ℕ) → Disjoint chosen rest → chosen + rest < 2 ^ tableCount g → holds chosen t ≡ 1 → x ≡ single t → Part g (chosen + rest) x
-first-part g chosen rest t x d l h e = rw e (part-from g (chosen + rest) t l (omega (arith, holds-sum chosen rest t d, holds-apart chosen rest t d)))
-
-pub first-in : (chosen t x p : ℕ) → holds chosen t ≡ 1 → x ≡ single t → Within x p → holds p t ≡ 1
-unfolding Within
-first-in chosen t x p h e w = w t (rw e (holds-single t (table-pos chosen t h)))
 
 pub overlap-some : (x y : ℕ) (r : Bool) → r ≡ not (disjoint x y) → r ≡ true → Disjoint x y → ⊥
 overlap-some x y r e h d = not-both (not (disjoint x y)) (sym e ∙ h) (rw (eq-eqb (bitAnd x y) 0 d))
@@ -335,7 +277,7 @@ onward-out (suc j) (suc e) (suc i) l u =
     let h : (2 ^ suc e - 2 ^ suc j) / 2 ≡ 2 ^ e - 2 ^ j = omega (arith, pow-suc 2 e, pow-suc 2 j) in
     rw h (onward-out j e i (omega arith) (omega arith))
 
-onward-holds : (n t u : ℕ) → 1 ≤ t → t ≤ u → u ≤ n → holds (onward n t) u ≡ 1
+pub onward-holds : (n t u : ℕ) → 1 ≤ t → t ≤ u → u ≤ n → holds (onward n t) u ≡ 1
 onward-holds n t zero f l h = absurd (omega arith)
 onward-holds n t (suc i) f l h = holds-bit (onward n t) i ∙ onward-in (t - 1) n i (omega arith) (omega arith)
 
@@ -362,6 +304,12 @@ number-range t e (x ∷ s) f r u h = go (number-range (suc x) e s (omega arith) 
     go ih (no z) =
         let o = holds-single-only x u (omega (arith, r .0)) (omega (arith, holds-sum (single x) (number s) u (later ih))) in
         (omega (arith, o, r .0), omega (arith, o, r .1))
+
+-- a sequence of some tables makes a set of some
+number-some : (s : List ℕ) → 0 < length s → 0 < number s
+unfolding number
+number-some [] h = absurd (omega arith)
+number-some (x ∷ s) h = omega (arith, pow-pos (x - 1))
 
 keep-nothing : {C : Type 0} (f : C → Bool) (xs : List C) → ((x : C) → List·Memᴰ x xs → f x ≡ true → ⊥) → keep f xs ≡ []
 unfolding keep
@@ -406,9 +354,21 @@ module _ (g : Graph) (N t chosen : ℕ) (f : 1 ≤ t) (h : t ≤ N + 1) (l : cho
           let r = number-range t (t + (N + 1 - t)) (o .0) f (combos-only k t (N + 1 - t) (o .0) (o .1) .1) in
           a .none (chosen + number (o .0)) (rw (← o .2) at (yes-true (connected? g S) e)) (has-chosen (number (o .0)) r) (has-only (number (o .0)) r)
 
+  -- nor where no set of some tables from t on is connected with the chosen ones
+  pub walk-without : ((X : ℕ) → 0 < X → ((u : ℕ) → holds X u ≡ 1 → (t ≤ u) × (u ≤ N)) → Connected g (chosen + X) → ⊥) → (k : ℕ) → 0 < k → walk g k t (N + 1 - t) chosen ≡ []
+  unfolding walk
+  walk-without n k p = keep-nothing (λ (S : ℕ). isYes (connected? g S)) (map (λ (s : List ℕ). chosen + number s) (combos k t (N + 1 - t))) not-connected
+    where
+      not-connected : (S : ℕ) → List·Memᴰ S (map (λ (s : List ℕ). chosen + number s) (combos k t (N + 1 - t))) → isYes (connected? g S) ≡ true → ⊥
+      not-connected S m e =
+          let o = Memᴰ·of-map (λ (s : List ℕ). chosen + number s) (combos k t (N + 1 - t)) m in
+          let c = combos-only k t (N + 1 - t) (o .0) (o .1) in
+          let r = number-range t (t + (N + 1 - t)) (o .0) f (c .1) in
+          n (number (o .0)) (number-some (o .0) (omega (arith, c .0))) (λ u i. (r u i .0, omega (arith, r u i .1))) (rw (← o .2) at (yes-true (connected? g S) e))
+
   -- in the code's form, where the tables from t on are x - y
   module _ (x y : ℕ) (ex : x ≡ single (N + 1)) (ey : y ≡ single t) where
-    rest-is : x - y ≡ onward N t
+    pub rest-is : x - y ≡ onward N t
     rest-is = let e : N + 1 - 1 ≡ N = omega arith in rw (ex, ey, e)
 
     pub rest-some : y ≤ x
@@ -419,6 +379,3 @@ module _ (g : Graph) (N t chosen : ℕ) (f : 1 ≤ t) (h : t ≤ N + 1) (l : cho
 
     pub rest-fits : chosen + (x - y) < 2 ^ N
     rest-fits = let e : N + 1 - 1 ≡ N = omega arith in omega (arith, rest-some, ex, ey, ap (λ (i : ℕ). 2 ^ i) e)
-
-    pub walk-pruned : Apart g chosen (chosen + (x - y)) → (k : ℕ) → walk g k t (N + 1 - t) chosen ≡ []
-    walk-pruned a k = walk-apart (rw rest-is at a) k
