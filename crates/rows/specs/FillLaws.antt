@@ -77,7 +77,7 @@ kept-store W old k v l m e = record { cells = λ i. go i (ℕ-discrete i k) }
 
 -- ---- nothing found
 pub filled-none : {g : Graph} {n t chosen z : ℕ} (starts old : List ℕ) → ((s : ℕ) → found g s z t (n + 1 - t) chosen ≡ []) → Filled g n t chosen z starts starts old old
-filled-none {g} starts old h = record { ends = tallied-none starts h; sets = record { kept = kept-same (memo g) old; cells = λ s i l a b. absurd (omega arith) } }
+filled-none {g} starts old h = record { places = tallied-none starts h; sets = record { kept = kept-same (memo g) old; cells = λ s i l a b. absurd (omega arith) } }
 
 -- ---- one step: k is the place of the row that table t makes
 module _ {g : Graph} {n t chosen : ℕ} (z x : ℕ) (row : Bool) (starts : List ℕ) {v : ℕ} (l : t ≤ n) (e : x ≡ single t) (r : row ≡ isYes (connected? g (chosen + x)))
@@ -147,12 +147,13 @@ module _ {near : List ℕ} {n t chosen around : ℕ} {joined : Bool} {z : ℕ} {
     pub filling-without : {mid new : List ℕ} → length mid ≡ length (set starts (z + 1) v) → length new ≡ length wrote
         → ((g : Graph) → length (memo g) ≤ length wrote → Node g near n (t + 1) (chosen + x) (bitOr around (at near t)) row → Placed g n (t + 1) (chosen + x) (z + 1) (set starts (z + 1) v) → Filled g n (t + 1) (chosen + x) (z + 1) (set starts (z + 1) v) mid wrote new)
         → Filling near n (t + 1) chosen around joined z mid new
+    unfolding filling-with
     filling-without i j h = record {
       g = c .g;
       node = node-without (c .node) l;
       smaller = omega (arith, c .smaller);
       long = omega (arith, c .long, length-set starts (z + 1) v);
-      placed = placed-without z x row starts l e (r (c .g) (c .node)) inside inside-n w (c .placed) (h (c .g) (filling-with .room) (filling-with .node) (filling-with .placed) .ends);
+      placed = placed-without z x row starts l e (r (c .g) (c .node)) inside inside-n w (c .placed) (h (c .g) (filling-with .room) (filling-with .node) (filling-with .placed) .places);
       room = omega (arith, c .room);
     }
 
@@ -164,13 +165,13 @@ pub filled-step : {g : Graph} {near : List ℕ} {n t chosen around : ℕ} {joine
     → (Node g near n (t + 1) chosen around joined → Placed g n (t + 1) chosen z ends → Filled g n (t + 1) chosen z ends last mid new)
     → Filled g n t chosen z starts last out new
 filled-step {g} {near} {n} {t} {chosen} {around} {joined} z x row starts out {v} {wrote} {mid} {new} {ends} {last} l e r b s m w o d p first second =
-    record { ends = tallied-step x row starts l e r b w (f .ends) (h .ends); sets = laid-step z x row starts l e r b s w p (memo g) out kept put (f .sets) (h .sets) }
+    record { places = tallied-step x row starts l e r b w (f .places) (h .places); sets = laid-step z x row starts l e r b s w p (memo g) out kept put (f .sets) (h .sets) }
   where
     f : Filled g n (t + 1) (chosen + x) (z + 1) (set starts (z + 1) v) ends wrote mid
     f = first (node-with d x l e row r) (placed-with z x row starts l e r b s w p)
 
     h : Filled g n (t + 1) chosen z ends last mid new
-    h = second (node-without d l) (placed-without z x row starts l e r b s w p (f .ends))
+    h = second (node-without d l) (placed-without z x row starts l e r b s w p (f .places))
 
     there : row ≡ true → (getD starts (z + 1) 0 < length (memo g)) × (getD (memo g) (getD starts (z + 1) 0) 0 ≡ chosen + x)
     there q = row-place z x row starts l e r b s w p q
@@ -201,7 +202,7 @@ memo-parts g k l =
 
 found-zero : (g : Graph) (t m chosen : ℕ) → found g 0 0 t m chosen ≡ []
 unfolding found
-found-zero g t m chosen = rw (le-ltb 0 0 (omega arith)) refl
+found-zero g t m chosen = refl
 
 pub placed-root : (g : Graph) (starts : List ℕ) → ((s : ℕ) → s ≤ tableCount g → getD starts s 0 ≡ length (upTo g (s - 1))) → Placed g (tableCount g) 1 0 0 starts
 placed-root g starts h = record { sizes = λ s l. go s l }
@@ -262,7 +263,7 @@ filled-root g starts old {ends} {new} n m h f = laid-whole (memo g) old n m (f .
         let j = o .0 in
         let e : j + 1 - 1 ≡ j = omega arith in
         let b : getD starts (j + 1) 0 ≡ length (upTo g j) = h (j + 1) (omega (arith, o .1)) ∙ ap (λ (k : ℕ). length (upTo g k)) e in
-        f .sets .cells (j + 1) i (omega (arith, o .1)) (omega (arith, b, o .2)) (omega (arith, b, o .3, f .ends .sizes (j + 1) (omega (arith, o .1)), ap length (found-first g j), length-more g j))
+        f .sets .cells (j + 1) i (omega (arith, o .1)) (omega (arith, b, o .2)) (omega (arith, b, o .3, f .places .sizes (j + 1) (omega (arith, o .1)), ap length (found-first g j), length-more g j))
 
 -- one more size's place
 pub starts-more : (g : Graph) (starts : List ℕ) (k : ℕ) {v : ℕ} → k + 1 < length starts → v ≡ length (upTo g k) → ((s : ℕ) → s ≤ k → getD starts s 0 ≡ length (upTo g (s - 1))) → (s : ℕ) → s ≤ k + 1 → getD (set starts (k + 1) v) s 0 ≡ length (upTo g (s - 1))

@@ -113,7 +113,7 @@ pub record Laid (W : List ℕ) (n : ℕ) (starts ends old new : List ℕ) : Type
 
 -- what a node leaves that fills: each size's place after the rows found, and those rows
 pub record Filled (g : Graph) (n t chosen z : ℕ) (starts ends old new : List ℕ) : Type 0 where
-  pub ends : Tallied g n t chosen z starts ends
+  pub places : Tallied g n t chosen z starts ends
   pub sets : Laid (memo g) n starts ends old new
 
 -- a node that fills: some graph's node, and the list has room for all rows

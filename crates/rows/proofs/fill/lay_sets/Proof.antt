@@ -1,7 +1,7 @@
 use mathlib.Core.Path.{_≡_, refl, sym, ap, _∙_}
 use Prim.Native.Nat.{ℕ, _+_, _-_, _*_, _≤_}
 use native.Mathlib.Omega.{arith}
-use lib.ListN.{length, getD, length-set}
+use lib.ListN.{length, getD, length-set, replicate}
 use Rattle.rules.specs.Query.{graphOf}
 use Rattle.rows.specs.Walk.{upTo}
 use Rattle.rows.specs.WalkLaws.{upTo-none, length-more, rows-fit}
@@ -25,7 +25,7 @@ loop-holds : tie.Need-loop-holds Inv-loop μ-loop
 loop-holds c =
     let s = c .before .before .before .before .before .before .before in
     let g = graphOf (s .args .rows .now) (s .args .left .now) (s .args .right .now) (s .args .divisors .now) in
-    (omega arith, refl, refl, omega arith, sym (ap length (upTo-none g)), starts-none g _ refl)
+    (omega arith, refl, refl, omega arith, sym (ap length (upTo-none g)), starts-none g (replicate 17 0) refl)
 
 add-starts : tie.Need-add-starts Inv-loop μ-loop
 add-starts c = omega arith
@@ -65,7 +65,7 @@ loop-again c =
     (omega arith, l .inv .1, length-set (l .starts) (l .k + 1) (l .at) ∙ l .inv .2, omega (arith, s .pre .1 .0 .sizes (l .k) (omega arith), rows-fit g (l .k + 1) (omega arith)), omega (arith, s .pre .1 .0 .sizes (l .k) (omega arith), length-more g (l .k)), starts-more g (l .starts) (l .k) (omega arith) (l .inv .4) (l .inv .5))
 
 slice-aggregate-fill-from : tie.Need-slice-aggregate-fill-from Inv-loop μ-loop
-slice-aggregate-fill-from c = c .before .before .before .loop .inv .2
+slice-aggregate-fill-from c = sym (c .before .before .before .loop .inv .2)
 
 fill-from-requires : tie.Need-fill-from-requires Inv-loop μ-loop
 fill-from-requires c κs =
