@@ -1,20 +1,19 @@
 use mathlib.Core.Path.{_≡_, refl, sym, ap, _∙_}
 use Prim.Native.Nat.{_+_, _-_, _*_, _≤_}
-use native.Mathlib.Nat.{mul-le-mul}
 use native.Mathlib.Omega.{arith}
 use lib.ListN.{length, set, length-set}
 use Rattle.rules.specs.Query.{graphOf}
 use Rattle.rows.specs.Walk.{upTo}
-use Rattle.rows.specs.WalkLaws.{upTo-none, length-more, rows-fit}
+use Rattle.rows.specs.WalkLaws.{upTo-none, length-more}
 use Rattle.skips.specs.Vectors.{written}
 use Rattle.memo.specs.Layout.{cellsTo, countsTo}
-use Rattle.memo.specs.ColumnLaws.{counts-none, counts-more, counts-end}
+use Rattle.memo.specs.ColumnLaws.{zero-cells, count-fits, counts-none, counts-more, counts-end}
 use Rattle.memo.specs.LayoutLaws.{cells-start, cells-count}
 use Rattle.memo.proofs.columns.lay_starts.Statement.{statement}
 use Rattle.memo.proofs.columns.lay_starts.Tie as tie
 
 abbrev Inv-loop : tie.InvT-loop
-Inv-loop rows left right divisors firsts₀ cells₀ row₀ cell₀ k₀ k-end firsts cells row cell k =
+Inv-loop rows left right divisors firsts₀ cells₀ counts row₀ cell₀ k₀ k-end firsts cells row cell k = 
     (k ≤ length rows) × (k-end ≡ length rows) × (length firsts ≡ length firsts₀) × (length cells ≡ length cells₀)
     × (row ≤ k * 65536) × (cell ≤ k * 1048576)
     × (row ≡ length (upTo (graphOf rows left right divisors) k)) × (cell ≡ length (cellsTo (graphOf rows left right divisors) k))
@@ -22,23 +21,21 @@ Inv-loop rows left right divisors firsts₀ cells₀ row₀ cell₀ k₀ k-end f
     × (cells ≡ written cells₀ 1 (countsTo (λ j. length (cellsTo (graphOf rows left right divisors) j)) k))
 
 abbrev μ-loop : tie.MeasureT-loop
-μ-loop rows left right divisors firsts₀ cells₀ row₀ cell₀ k₀ k-end firsts cells row cell k = k-end - k
+μ-loop rows left right divisors firsts₀ cells₀ counts row₀ cell₀ k₀ k-end firsts cells row cell k = k-end - k
+
+slice-aggregate-tally : tie.Need-slice-aggregate-tally Inv-loop μ-loop
+slice-aggregate-tally c = omega arith
+
+tally-requires : tie.Need-tally-requires Inv-loop μ-loop
+tally-requires c κs =
+    let s = c .before .before .before .before .before .before .before in
+    (s .pre .0, (omega arith, zero-cells 17 (length (s .args .rows .now))))
 
 loop-holds : tie.Need-loop-holds Inv-loop μ-loop
 loop-holds c =
-    let s = c .before .before .before .before .before .before in
-    let g = graphOf (s .args .rows .now) (s .args .left .now) (s .args .right .now) (s .args .divisors .now) in (
-      omega arith,
-      refl,
-      refl,
-      refl,
-      omega arith,
-      omega arith,
-      sym (ap length (upTo-none g)),
-      sym (ap length (cells-start g)),
-      counts-none (λ j. length (upTo g j)) (s .args .firsts .now),
-      counts-none (λ j. length (cellsTo g j)) (s .args .cells .now),
-    )
+    let s = c .before .before .before .before .before .before .before .before .before in
+    let g = graphOf (s .args .rows .now) (s .args .left .now) (s .args .right .now) (s .args .divisors .now) in
+    (omega arith, refl, refl, refl, omega arith, omega arith, sym (ap length (upTo-none g)), sym (ap length (cells-start g)), counts-none (λ j. length (upTo g j)) (s .args .firsts .now), counts-none (λ j. length (cellsTo g j)) (s .args .cells .now))
 
 add-firsts : tie.Need-add-firsts Inv-loop μ-loop
 add-firsts c = omega arith
@@ -58,39 +55,35 @@ mul-cells c = omega arith
 slice-write-cells : tie.Need-slice-write-cells Inv-loop μ-loop
 slice-write-cells c = omega arith
 
-add-count-size : tie.Need-add-count-size Inv-loop μ-loop
-add-count-size c = omega arith
+add-count : tie.Need-add-count Inv-loop μ-loop
+add-count c = omega arith
 
-count-size-requires : tie.Need-count-size-requires Inv-loop μ-loop
-count-size-requires c κs = (c .before .before .before .before .before .before .before .before .pre .0, omega arith)
+mul-count : tie.Need-mul-count Inv-loop μ-loop
+mul-count c = omega arith
+
+array-read-count : tie.Need-array-read-count Inv-loop μ-loop
+array-read-count c = omega (arith, c .before .before .before .tally .ensures .long)
 
 add-row : tie.Need-add-row Inv-loop μ-loop
 add-row c =
-    let l = c .before .before .loop in
-    let s = c .before .before .before .before .before .before .before .before .before in
-    let g = graphOf (s .args .rows .now) (s .args .left .now) (s .args .right .now) (s .args .divisors .now) in
-    omega (arith, c .count-size .ensures, rows-fit g (l .k + 1) (omega arith))
+    let s = c .before .before .before .before .before .before .before .before .before .before .before in
+    let l = c .before .loop in
+    omega (arith, count-fits (graphOf (s .args .rows .now) (s .args .left .now) (s .args .right .now) (s .args .divisors .now)) (l .k) (omega arith) (omega arith) (c .before .before .before .tally .ensures .sizes (l .k) (omega arith)) .0)
 
 add-cell : tie.Need-add-cell Inv-loop μ-loop
 add-cell c = omega arith
 
 mul-cell : tie.Need-mul-cell Inv-loop μ-loop
 mul-cell c =
-    let l = c .before .before .loop in
-    let s = c .before .before .before .before .before .before .before .before .before in
-    let g = graphOf (s .args .rows .now) (s .args .left .now) (s .args .right .now) (s .args .divisors .now) in
-    let fit = rows-fit g (l .k + 1) (omega arith) in
-    let room = mul-le-mul {n₁ = c .count-size .result} {m₁ = l .k + 1} {n₂ = 65536} {m₂ = 16} (omega (arith, c .count-size .ensures)) (omega arith) in
-    omega (arith, room)
+    let s = c .before .before .before .before .before .before .before .before .before .before .before in
+    let l = c .before .loop in
+    omega (arith, count-fits (graphOf (s .args .rows .now) (s .args .left .now) (s .args .right .now) (s .args .divisors .now)) (l .k) (omega arith) (omega arith) (c .before .before .before .tally .ensures .sizes (l .k) (omega arith)) .1)
 
 add-cell-2 : tie.Need-add-cell-2 Inv-loop μ-loop
 add-cell-2 c =
-    let l = c .before .before .loop in
-    let s = c .before .before .before .before .before .before .before .before .before in
-    let g = graphOf (s .args .rows .now) (s .args .left .now) (s .args .right .now) (s .args .divisors .now) in
-    let fit = rows-fit g (l .k + 1) (omega arith) in
-    let room = mul-le-mul {n₁ = c .count-size .result} {m₁ = l .k + 1} {n₂ = 65536} {m₂ = 16} (omega (arith, c .count-size .ensures)) (omega arith) in
-    omega (arith, room)
+    let s = c .before .before .before .before .before .before .before .before .before .before .before in
+    let l = c .before .loop in
+    omega (arith, count-fits (graphOf (s .args .rows .now) (s .args .left .now) (s .args .right .now) (s .args .divisors .now)) (l .k) (omega arith) (omega arith) (c .before .before .before .tally .ensures .sizes (l .k) (omega arith)) .1)
 
 add-k : tie.Need-add-k Inv-loop μ-loop
 add-k c = omega arith
@@ -100,22 +93,11 @@ loop-less c = omega arith
 
 loop-again : tie.Need-loop-again Inv-loop μ-loop
 loop-again c =
-    let l = c .before .before .loop in
-    let s = c .before .before .before .before .before .before .before .before .before in
+    let s = c .before .before .before .before .before .before .before .before .before .before .before in
+    let l = c .before .loop in
     let g = graphOf (s .args .rows .now) (s .args .left .now) (s .args .right .now) (s .args .divisors .now) in
-    let fit = rows-fit g (l .k + 1) (omega arith) in
-    let room = mul-le-mul {n₁ = c .count-size .result} {m₁ = l .k + 1} {n₂ = 65536} {m₂ = 16} (omega (arith, c .count-size .ensures)) (omega arith) in (
-      omega arith,
-      l .inv .1,
-      length-set (l .firsts) (l .k + 1) (l .row) ∙ l .inv .2,
-      length-set (l .cells) (l .k + 1) (l .cell) ∙ l .inv .3,
-      omega (arith, c .count-size .ensures, fit),
-      omega (arith, room),
-      omega (arith, c .count-size .ensures, length-more g (l .k)),
-      omega (arith, cells-count g (l .k) (c .count-size .ensures)),
-      counts-more (λ j. length (upTo g j)) (s .args .firsts .now) (l .k) (l .inv .8) (l .inv .6),
-      counts-more (λ j. length (cellsTo g j)) (s .args .cells .now) (l .k) (l .inv .9) (l .inv .7),
-    )
+    let tally′ = c .before .before .before .tally in
+    (omega arith, l .inv .1, length-set (l .firsts) (l .k + 1) (l .row) ∙ l .inv .2, length-set (l .cells) (l .k + 1) (l .cell) ∙ l .inv .3, omega (arith, count-fits g (l .k) (omega arith) (omega arith) (tally′ .ensures .sizes (l .k) (omega arith)) .0), omega (arith, count-fits g (l .k) (omega arith) (omega arith) (tally′ .ensures .sizes (l .k) (omega arith)) .1), omega (arith, tally′ .ensures .sizes (l .k) (omega arith), length-more g (l .k)), omega (arith, cells-count g (l .k) (tally′ .ensures .sizes (l .k) (omega arith))), counts-more (λ j. length (upTo g j)) (s .args .firsts .now) (l .k) (l .inv .8) (l .inv .6), counts-more (λ j. length (cellsTo g j)) (s .args .cells .now) (l .k) (l .inv .9) (l .inv .7))
 
 add-firsts-2 : tie.Need-add-firsts-2 Inv-loop μ-loop
 add-firsts-2 c = omega arith
@@ -138,40 +120,31 @@ slice-write-cells-2 c = omega arith
 slice-write-firsts-3 : tie.Need-slice-write-firsts-3 Inv-loop μ-loop
 slice-write-firsts-3 c =
     let l = c .before .loop in
-    let s = c .before .before .before .before .before .before .before .before in
-    let n = length (s .args .rows .now) + 1 in
-    omega (arith, length-set (l .firsts) n (l .row))
+    omega (arith, length-set (l .firsts) (length (c .before .before .before .before .before .before .before .before .before .before .before .args .rows .now) + 1) (l .row))
 
 slice-write-cells-3 : tie.Need-slice-write-cells-3 Inv-loop μ-loop
 slice-write-cells-3 c =
     let l = c .before .loop in
-    let s = c .before .before .before .before .before .before .before .before in
-    let n = length (s .args .rows .now) + 1 in
-    omega (arith, length-set (l .cells) n (l .cell))
+    omega (arith, length-set (l .cells) (length (c .before .before .before .before .before .before .before .before .before .before .before .args .rows .now) + 1) (l .cell))
 
 same-length : tie.Need-same-length Inv-loop μ-loop
 same-length c =
+    let s = c .before .before .before .before .before .before .before .before .before .before .before in
     let l = c .before .loop in
-    let s = c .before .before .before .before .before .before .before .before in
-    let n = length (s .args .rows .now) + 1 in
-    length-set (set (l .firsts) n (l .row)) 0 0 ∙ length-set (l .firsts) n (l .row) ∙ l .inv .2
+    length-set (set (l .firsts) (length (s .args .rows .now) + 1) (l .row)) 0 0 ∙ length-set (l .firsts) (length (s .args .rows .now) + 1) (l .row) ∙ l .inv .2
 
 same-length-2 : tie.Need-same-length-2 Inv-loop μ-loop
 same-length-2 c =
+    let s = c .before .before .before .before .before .before .before .before .before .before .before in
     let l = c .before .loop in
-    let s = c .before .before .before .before .before .before .before .before in
-    let n = length (s .args .rows .now) + 1 in
-    length-set (set (l .cells) n (l .cell)) 0 0 ∙ length-set (l .cells) n (l .cell) ∙ l .inv .3
+    length-set (set (l .cells) (length (s .args .rows .now) + 1) (l .cell)) 0 0 ∙ length-set (l .cells) (length (s .args .rows .now) + 1) (l .cell) ∙ l .inv .3
 
 returns : tie.Need-returns Inv-loop μ-loop
 returns c =
+    let s = c .before .before .before .before .before .before .before .before .before .before .before in
     let l = c .before .loop in
-    let s = c .before .before .before .before .before .before .before .before in
     let g = graphOf (s .args .rows .now) (s .args .left .now) (s .args .right .now) (s .args .divisors .now) in
-    let n = length (s .args .rows .now) in (
-      counts-end (λ j. length (upTo g j)) (s .args .firsts .now) n (l .k) (omega arith) (l .inv .8) (l .inv .6),
-      counts-end (λ j. length (cellsTo g j)) (s .args .cells .now) n (l .k) (omega arith) (l .inv .9) (l .inv .7),
-    )
+    (counts-end (λ j. length (upTo g j)) (s .args .firsts .now) (length (s .args .rows .now)) (l .k) (omega arith) (l .inv .8) (l .inv .6), counts-end (λ j. length (cellsTo g j)) (s .args .cells .now) (length (s .args .rows .now)) (l .k) (omega arith) (l .inv .9) (l .inv .7))
 
 pub lay-starts-spec : {M : Type 1} → statement M
 lay-starts-spec =
@@ -179,6 +152,8 @@ lay-starts-spec =
     (tie.spec
     Inv-loop
     μ-loop
+    slice-aggregate-tally
+    tally-requires
     loop-holds
     add-firsts
     mul-firsts
@@ -186,8 +161,9 @@ lay-starts-spec =
     add-cells
     mul-cells
     slice-write-cells
-    add-count-size
-    count-size-requires
+    add-count
+    mul-count
+    array-read-count
     add-row
     add-cell
     mul-cell
