@@ -4,3 +4,4 @@ pub mod LogLaws
 pub mod TallyLaws
 pub mod RunLaws
 pub mod SearchLaws
+pub mod HandLaws

@@ -217,6 +217,13 @@ size-of h e = omega arith
 pub below-eight : {w m : ℕ} → w < m → m ≤ maxWorkers → w < maxWorkers
 below-eight h e = omega arith
 
+-- places of the table, with a worker in hand and without
+pub in-table : {w : ℕ} (workers : List Worker) → w < maxWorkers → length workers ≡ maxWorkers → w < length workers
+in-table workers h e = omega arith
+
+pub in-memory : (workers : List Worker) (held : ℕ) (v : Worker) → held < maxWorkers → length (set workers held v) ≡ maxWorkers → held < length workers
+in-memory workers held v h e = omega (arith, length-set workers held v)
+
 pub few-pairs : {p s n : ℕ} → p ≤ maxWorkers * (s * few) → s ≤ n → n ≤ maxTables → p < 2 ^ 63
 few-pairs a b c = omega arith
 

@@ -13,7 +13,7 @@ use memo::columns::lay_starts;
 use rules::Scheme;
 use turns::open::open;
 use turns::scans::lay_scans;
-use turns::turn::turn;
+use turns::turn::step;
 
 // How many pairs the turns handed, and how many to each worker.
 pub struct Searched {
@@ -77,9 +77,17 @@ pub fn search(
         );
         workers = opened;
         let mut low = lowest(workers, count);
+        // The worker whose turn it was stays in hand: the table is written only where another has the turn, or where no pair is left.
+        let mut held = 0usize;
+        let mut worker = workers[0];
         while low < count {
             let w = whose_turn(turns, at, low);
-            let turned = turn(
+            if w != held {
+                workers[held] = worker;
+                worker = workers[w];
+                held = w;
+            }
+            let stepped = step(
                 rows,
                 left,
                 right,
@@ -97,12 +105,11 @@ pub fn search(
                 &firsts,
                 &cells,
                 s,
-                workers,
-                w,
+                worker,
             );
-            let moved = turned.workers;
-            let pair = turned.pair;
-            workers = moved;
+            let moved = stepped.worker;
+            let pair = stepped.pair;
+            worker = moved;
             pairs = note(
                 log_workers,
                 log_driving,
@@ -113,8 +120,12 @@ pub fn search(
                 pair,
             );
             at = entries_on(turns.len(), at);
-            low = lowest(workers, count);
+            if !worker.place.left {
+                workers[held] = worker;
+                low = lowest(workers, count);
+            }
         }
+        workers[held] = worker;
     }
     Searched {
         pairs: pairs,

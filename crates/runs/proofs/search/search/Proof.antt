@@ -1,28 +1,38 @@
 use mathlib.Core.Path.{_≡_, refl, sym, _∙_}
+use mathlib.Core.Logic.{⊎-elim}
 use mathlib.Core.List.{List}
-use Prim.Native.Nat.{ℕ, _+_, _-_, _≤_}
+use Prim.Native.Nat.{ℕ, _+_, _-_, _≤_, _<_}
 use native.Mathlib.Nat.{le-refl}
-use lib.ListN.{length, replicate}
+use native.Mathlib.Omega.{arith}
+use borrow.Author.Tests.{not-false}
+use borrow.Author.Needs.{scaled-fits}
+use lib.Dec.{lit<}
+use lib.ListN.{length, replicate, set}
+use Rattle.rules.specs.Limits.{maxWorkers}
 use Rattle.rules.specs.Query.{graphOf}
 use Rattle.query.specs.Lists.{queryOf}
 use Rattle.memo.specs.Layout.{starts, cellStarts}
 use Rattle.turns.specs.Standing.{columns}
 use Rattle.turns.specs.QueueLaws.{stillMet}
+use Rattle.turns.specs.StepLaws.{ready-read}
 use Rattle.turns.specs.StartLaws.{Prepared}
+use Rattle.crew.specs.Workers.{workerAt}
 use Rattle.crew.specs.Logs.{logOf}
 use Rattle.runs.specs.Runs.{Between, Underway, Carried}
-use Rattle.runs.specs.SearchLaws.{scans-fit, between-start, between-end, prepared, nobodies, within-open, within-closed, within-few, within-board, within-ready, whose-known, within-less, carried-start, carried-turn, underway-turn, two-of, size-of, below-eight, below-two, few-pairs, starts-room, size-fits, less-size, all-sizes, laid-length, logged-lengths}
+use Rattle.runs.specs.HandLaws.{InHand, hand-start, hand-changed, hand-kept, put-down, hand-turn, hand-lowest}
+use Rattle.runs.specs.SearchLaws.{in-table, in-memory, scans-fit, between-start, between-end, prepared, nobodies, within-open, within-closed, within-few, within-board, within-ready, whose-known, within-less, carried-start, carried-turn, underway-turn, two-of, size-of, below-eight, below-two, few-pairs, starts-room, size-fits, less-size, all-sizes, laid-length, logged-lengths}
 use Rattle.runs.proofs.search.search.Statement.{statement}
 use Rattle.runs.proofs.search.search.Tie as tie
 
 abbrev Inv-loop2 : tie.InvT-loop2
-Inv-loop2 rows scans left right divisors fixed outer inner result scheme count turns sets estimates costs₀ outers₀ methods₀ skips log-workers₀ log-driving₀ log-inner₀ log-costs₀ firsts cells workers₀ at₀ pairs₀ k s low₀ k-end costs outers methods log-workers log-driving log-inner log-costs workers at pairs low =
+Inv-loop2 rows scans left right divisors fixed outer inner result scheme count turns sets estimates costs₀ outers₀ methods₀ skips log-workers₀ log-driving₀ log-inner₀ log-costs₀ firsts cells workers₀ at₀ pairs₀ k s low₀ held₀ worker₀ k-end costs outers methods log-workers log-driving log-inner log-costs workers at pairs low held worker =
     Prepared (queryOf rows scans left right divisors fixed outer inner result) sets estimates skips firsts cells × (2 ≤ s) × (s ≤ length rows) × (length firsts ≡ 18) × (length cells ≡ 18)
-    × Underway (queryOf rows scans left right divisors fixed outer inner result) scheme count turns s low workers at pairs (columns costs outers methods) (logOf log-workers log-driving log-inner log-costs)
-    × Carried (queryOf rows scans left right divisors fixed outer inner result) scheme count turns s low₀ workers₀ at₀ pairs₀ (columns costs₀ outers₀ methods₀) (logOf log-workers₀ log-driving₀ log-inner₀ log-costs₀) low workers at pairs (columns costs outers methods) (logOf log-workers log-driving log-inner log-costs)
+    × Underway (queryOf rows scans left right divisors fixed outer inner result) scheme count turns s low (set workers held worker) at pairs (columns costs outers methods) (logOf log-workers log-driving log-inner log-costs)
+    × Carried (queryOf rows scans left right divisors fixed outer inner result) scheme count turns s low₀ (set workers₀ held₀ worker₀) at₀ pairs₀ (columns costs₀ outers₀ methods₀) (logOf log-workers₀ log-driving₀ log-inner₀ log-costs₀) low (set workers held worker) at pairs (columns costs outers methods) (logOf log-workers log-driving log-inner log-costs)
+    × (held < maxWorkers)
 
 abbrev μ-loop2 : tie.MeasureT-loop2
-μ-loop2 rows scans left right divisors fixed outer inner result scheme count turns sets estimates costs₀ outers₀ methods₀ skips log-workers₀ log-driving₀ log-inner₀ log-costs₀ firsts cells workers₀ at₀ pairs₀ k s low₀ k-end costs outers methods log-workers log-driving log-inner log-costs workers at pairs low = length turns - at + stillMet (graphOf rows left right divisors) s count workers
+μ-loop2 rows scans left right divisors fixed outer inner result scheme count turns sets estimates costs₀ outers₀ methods₀ skips log-workers₀ log-driving₀ log-inner₀ log-costs₀ firsts cells workers₀ at₀ pairs₀ k s low₀ held₀ worker₀ k-end costs outers methods log-workers log-driving log-inner log-costs workers at pairs low held worker = length turns - at + stillMet (graphOf rows left right divisors) s count (set workers held worker)
 
 abbrev Inv-loop : tie.InvT-loop
 Inv-loop rows scans left right divisors fixed outer inner result scheme count turns sets estimates costs₀ outers₀ methods₀ skips log-workers₀ log-driving₀ log-inner₀ log-costs₀ firsts cells workers₀ at₀ pairs₀ k₀ k-end costs outers methods log-workers log-driving log-inner log-costs workers at pairs k =
@@ -36,6 +46,10 @@ abbrev μ-loop : tie.MeasureT-loop
 abbrev zeros : List ℕ
 zeros = replicate 18 0
 
+-- the table has workers
+some-workers : 0 < maxWorkers
+some-workers = omega arith
+
 slice-aggregate-lay-starts : tie.Need-slice-aggregate-lay-starts Inv-loop2 μ-loop2 Inv-loop μ-loop
 slice-aggregate-lay-starts c = refl
 
@@ -44,15 +58,11 @@ slice-aggregate-lay-starts-2 c = refl
 
 lay-starts-requires : tie.Need-lay-starts-requires Inv-loop2 μ-loop2 Inv-loop μ-loop
 lay-starts-requires c κs =
-    let s = c .before .before .before .before .before .before .before .before .before .before .before .before .before .before .before .before .before .before .before .before .before .before in
-    let z = s .pre in
+    let z = c .before .before .before .before .before .before .before .before .before .before .before .before .before .before .before .before .before .before .before .before .before .before .pre in
     (z .sound .graph, (starts-room (z .sound .graph .few-tables), starts-room (z .sound .graph .few-tables)))
 
 lay-scans-requires : tie.Need-lay-scans-requires Inv-loop2 μ-loop2 Inv-loop μ-loop
-lay-scans-requires c κs =
-    let s = c .before .before .before .before .before .before .before .before .before .before .before .before .before .before .before .before .before .before .before .before .before .before .before .before .before .before in
-    let z = s .pre in
-    scans-fit z
+lay-scans-requires c κs = scans-fit (c .before .before .before .before .before .before .before .before .before .before .before .before .before .before .before .before .before .before .before .before .before .before .before .before .before .before .pre)
 
 nobody-requires : tie.Need-nobody-requires Inv-loop2 μ-loop2 Inv-loop μ-loop
 nobody-requires c κs = tt
@@ -84,53 +94,92 @@ slice-aggregate-open-2 c = sym (c .before .before .before .loop .inv .5)
 
 open-requires : tie.Need-open-requires Inv-loop2 μ-loop2 Inv-loop μ-loop
 open-requires c κs =
-    let s = c .before .before .before .before .before .before .before .before .before .before .before .before .before .before .before .before .before .before .before .before .before .before .before .before .before .before .before .before .before .before .before .before .before .before in
-    let z = s .pre in
+    let z = c .before .before .before .before .before .before .before .before .before .before .before .before .before .before .before .before .before .before .before .before .before .before .before .before .before .before .before .before .before .before .before .before .before .before .pre in
     let l = c .before .before .before .loop in
     ((z .sound .graph, l .inv .3 .ground), (two-of (l .inv .0), size-of (c .before .before .loop-test .taken) (l .inv .2), z .some-worker, z .few-workers))
 
 lowest-requires : tie.Need-lowest-requires Inv-loop2 μ-loop2 Inv-loop μ-loop
 lowest-requires c κs = c .before .before .before .before .before .before .before .before .before .before .before .before .before .before .before .before .before .before .before .before .before .before .before .before .before .before .before .before .before .before .before .before .before .before .before .pre .few-workers
 
+array-copy-out-worker : tie.Need-array-copy-out-worker Inv-loop2 μ-loop2 Inv-loop μ-loop
+array-copy-out-worker c = some-workers
+
 loop2-holds : tie.Need-loop2-holds Inv-loop2 μ-loop2 Inv-loop μ-loop
 loop2-holds c =
-    let s = c .before .before .before .before .before .before .before .before .before .before .before .before .before .before .before .before .before .before .before .before .before .before .before .before .before .before .before .before .before .before .before .before .before .before .before .before in
-    let z = s .pre in
-    let l = c .before .before .before .before .before .loop in
+    let open′ = c .before .before .«open» in
+    let z = c .before .before .before .before .before .before .before .before .before .before .before .before .before .before .before .before .before .before .before .before .before .before .before .before .before .before .before .before .before .before .before .before .before .before .before .before .before .pre in
+    let l = c .before .before .before .before .before .before .loop in
     let two = two-of (l .inv .0) in
-    let known = size-of (c .before .before .before .before .loop-test .taken) (l .inv .2) in (
+    let known = size-of (c .before .before .before .before .before .loop-test .taken) (l .inv .2) in (
       l .inv .3,
       two,
       known,
       l .inv .4,
       l .inv .5,
-      record { old = _; lent = _; lent-fits = z .log-fits; within = within-open (z .sound) two known (z .some-worker) (z .few-workers) (l .inv .6) (c .before .open .ensures) (c .lowest .ensures) },
+      record { old = _; lent = _; lent-fits = z .log-fits; within = hand-start (open′ .result) (within-open (z .sound) two known (z .some-worker) (z .few-workers) (l .inv .6) (open′ .ensures) (c .before .lowest .ensures)) },
       carried-start _ _ _ _ _ _ _ _ _ _ _,
+      some-workers,
     )
 
 whose-turn-requires : tie.Need-whose-turn-requires Inv-loop2 μ-loop2 Inv-loop μ-loop
 whose-turn-requires c κs = tt
 
-slice-aggregate-turn : tie.Need-slice-aggregate-turn Inv-loop2 μ-loop2 Inv-loop μ-loop
-slice-aggregate-turn c = sym (c .before .before .before .before .before .before .loop2 .inv .3)
+mul-workers : tie.Need-mul-workers Inv-loop2 μ-loop2 Inv-loop μ-loop
+mul-workers c = scaled-fits _ maxWorkers _ (c .before .before .before .loop2 .inv .7) (lit< tt)
 
-slice-aggregate-turn-2 : tie.Need-slice-aggregate-turn-2 Inv-loop2 μ-loop2 Inv-loop μ-loop
-slice-aggregate-turn-2 c = sym (c .before .before .before .before .before .before .before .loop2 .inv .4)
+array-set-from-workers : tie.Need-array-set-from-workers Inv-loop2 μ-loop2 Inv-loop μ-loop
+array-set-from-workers c = c .before .before .before .loop2 .inv .7
 
-turn-requires : tie.Need-turn-requires Inv-loop2 μ-loop2 Inv-loop μ-loop
-turn-requires c κs =
-    let s = c .before .before .before .before .before .before .before .before .before .before .before .before .before .before .before .before .before .before .before .before .before .before .before .before .before .before .before .before .before .before .before .before .before .before .before .before .before .before .before .before .before .before .before .before in
-    let z = s .pre in
-    let m = c .before .before .before .before .before .before .before .loop2 in
+mul-worker : tie.Need-mul-worker Inv-loop2 μ-loop2 Inv-loop μ-loop
+mul-worker c =
+    let z = c .before .before .before .before .before .before .before .before .before .before .before .before .before .before .before .before .before .before .before .before .before .before .before .before .before .before .before .before .before .before .before .before .before .before .before .before .before .before .before .before .before .pre in
+    let m = c .before .before .before .loop2 in
     let u = m .inv .5 in
-    let e = c .before .before .before .before .before .whose-turn .ensures in
-    (within-board (z .sound) (m .inv .1) (m .inv .2) (u .lent-fits) (z .turns-known) (u .within) (c .before .before .before .before .before .before .loop2-test .taken) (m .inv .0), (below-eight (whose-known (z .sound) (m .inv .1) (m .inv .2) (u .lent-fits) (z .turns-known) (u .within) (c .before .before .before .before .before .before .loop2-test .taken) e) (z .few-workers), within-ready (z .sound) (m .inv .1) (m .inv .2) (u .lent-fits) (z .turns-known) (u .within) (c .before .before .before .before .before .before .loop2-test .taken) e))
+    scaled-fits _ maxWorkers _ (below-eight (whose-known (z .sound) (m .inv .1) (m .inv .2) (u .lent-fits) (z .turns-known) (u .within) (c .before .before .loop2-test .taken) (c .before .whose-turn .ensures)) (z .few-workers)) (lit< tt)
+
+array-copy-out-worker-2 : tie.Need-array-copy-out-worker-2 Inv-loop2 μ-loop2 Inv-loop μ-loop
+array-copy-out-worker-2 c =
+    let z = c .before .before .before .before .before .before .before .before .before .before .before .before .before .before .before .before .before .before .before .before .before .before .before .before .before .before .before .before .before .before .before .before .before .before .before .before .before .before .before .before .before .pre in
+    let m = c .before .before .before .loop2 in
+    let u = m .inv .5 in
+    below-eight (whose-known (z .sound) (m .inv .1) (m .inv .2) (u .lent-fits) (z .turns-known) (u .within) (c .before .before .loop2-test .taken) (c .before .whose-turn .ensures)) (z .few-workers)
+
+slice-aggregate-step : tie.Need-slice-aggregate-step Inv-loop2 μ-loop2 Inv-loop μ-loop
+slice-aggregate-step c = sym (c .before .before .before .before .before .before .before .loop2 .inv .3)
+
+slice-aggregate-step-2 : tie.Need-slice-aggregate-step-2 Inv-loop2 μ-loop2 Inv-loop μ-loop
+slice-aggregate-step-2 c = sym (c .before .before .before .before .before .before .before .before .loop2 .inv .4)
+
+-- after the change of hands: the worker in hand is the one whose turn it is
+in-hand : (c : tie.Joined1 Inv-loop2 μ-loop2 Inv-loop μ-loop) → InHand (set (c .before .before .before .loop2 .workers) (c .before .before .before .loop2 .held) (c .before .before .before .loop2 .worker)) (c .if1 .workers) (c .if1 .held) (c .before .whose-turn .result) (c .if1 .worker)
+in-hand c =
+    let m = c .before .before .before .loop2 in
+    ⊎-elim (λ w. hand-changed (m .workers) (m .held) (c .before .whose-turn .result) (m .worker) (w .2) (w .3) (w .4))
+    (λ w. hand-kept (m .workers) (m .held) (c .before .whose-turn .result) (m .worker) (in-memory (m .workers) (m .held) (m .worker) (m .inv .7) (m .inv .5 .within .running .tally .table)) (w .0 .left) (w .1) (w .2) (w .3))
+    (c .if1 .came)
+
+-- and it is one of the table's
+held-inside : (c : tie.Joined1 Inv-loop2 μ-loop2 Inv-loop μ-loop) → c .if1 .held < maxWorkers
+held-inside c =
+    let z = c .before .before .before .before .before .before .before .before .before .before .before .before .before .before .before .before .before .before .before .before .before .before .before .before .before .before .before .before .before .before .before .before .before .before .before .before .before .before .before .before .before .pre in
+    let m = c .before .before .before .loop2 in
+    let u = m .inv .5 in
+    rw (in-hand c .whose) (below-eight (whose-known (z .sound) (m .inv .1) (m .inv .2) (u .lent-fits) (z .turns-known) (u .within) (c .before .before .loop2-test .taken) (c .before .whose-turn .ensures)) (z .few-workers))
+
+step-requires : tie.Need-step-requires Inv-loop2 μ-loop2 Inv-loop μ-loop
+step-requires c κs =
+    let loop2-test′ = c .before .before .before .before .before .before .before .loop2-test in
+    let whose-turn′ = c .before .before .before .before .before .before .whose-turn in
+    let z = c .before .before .before .before .before .before .before .before .before .before .before .before .before .before .before .before .before .before .before .before .before .before .before .before .before .before .before .before .before .before .before .before .before .before .before .before .before .before .before .before .before .before .before .before .before .before .pre in
+    let m = c .before .before .before .before .before .before .before .before .loop2 in
+    let u = m .inv .5 in
+    let h = in-hand (c .before .before .before .before .before) in
+    (within-board (z .sound) (m .inv .1) (m .inv .2) (u .lent-fits) (z .turns-known) (u .within) (loop2-test′ .taken) (m .inv .0), ready-read (set (m .workers) (m .held) (m .worker)) (whose-turn′ .result) (c .before .before .before .before .before .if1 .worker) (h .worker) (within-ready (z .sound) (m .inv .1) (m .inv .2) (u .lent-fits) (z .turns-known) (u .within) (loop2-test′ .taken) (whose-turn′ .ensures)))
 
 note-requires : tie.Need-note-requires Inv-loop2 μ-loop2 Inv-loop μ-loop
 note-requires c κs =
-    let s = c .before .before .before .before .before .before .before .before .before .before .before .before .before .before .before .before .before .before .before .before .before .before .before .before .before .before .before .before .before .before .before .before .before .before .before .before .before .before .before .before .before .before .before .before .before .before .before .before .before .before .before .before .before .before .before .before .before in
-    let z = s .pre in
-    let m = c .before .before .before .before .before .before .before .before .before .before .before .before .before .before .before .before .before .before .before .before .loop2 in
+    let z = c .before .before .before .before .before .before .before .before .before .before .before .before .before .before .before .before .before .before .before .before .before .before .before .before .before .before .before .before .before .before .before .before .before .before .before .before .before .before .before .before .before .before .before .before .before .before .before .before .before .before .before .before .before .before .before .before .before .before .before .pre in
+    let m = c .before .before .before .before .before .before .before .before .before .before .before .before .before .before .before .before .before .before .before .before .before .loop2 in
     let u = m .inv .5 in
     let f = u .within .log-fits in
     ((f .driving, f .inner, f .costs), few-pairs (within-few (z .sound) (m .inv .1) (m .inv .2) (z .some-worker) (z .few-workers) (u .within)) (m .inv .2) (z .sound .graph .few-tables))
@@ -138,45 +187,103 @@ note-requires c κs =
 entries-on-requires : tie.Need-entries-on-requires Inv-loop2 μ-loop2 Inv-loop μ-loop
 entries-on-requires c κs = tt
 
+mul-workers-2 : tie.Need-mul-workers-2 Inv-loop2 μ-loop2 Inv-loop μ-loop
+mul-workers-2 c = scaled-fits _ maxWorkers _ (held-inside (c .before .before .before .before .before .before .before .before .before .before .before .before .before .before .before .before .before .before .before .before .before .before .before .before .before .before .before .before .before .before .before)) (lit< tt)
+
+array-set-from-workers-2 : tie.Need-array-set-from-workers-2 Inv-loop2 μ-loop2 Inv-loop μ-loop
+array-set-from-workers-2 c = held-inside (c .before .before .before .before .before .before .before .before .before .before .before .before .before .before .before .before .before .before .before .before .before .before .before .before .before .before .before .before .before .before .before)
+
 lowest-requires-2 : tie.Need-lowest-requires-2 Inv-loop2 μ-loop2 Inv-loop μ-loop
-lowest-requires-2 c κs = c .before .before .before .before .before .before .before .before .before .before .before .before .before .before .before .before .before .before .before .before .before .before .before .before .before .before .before .before .before .before .before .before .before .before .before .before .before .before .before .before .before .before .before .before .before .before .before .before .before .before .before .before .before .before .before .before .before .before .before .before .before .before .before .before .before .before .before .pre .few-workers
+lowest-requires-2 c κs = c .before .before .before .before .before .before .before .before .before .before .before .before .before .before .before .before .before .before .before .before .before .before .before .before .before .before .before .before .before .before .before .before .before .before .before .before .before .before .before .before .before .before .before .before .before .before .before .before .before .before .before .before .before .before .before .before .before .before .before .before .before .before .before .before .before .before .before .before .before .before .before .before .pre .few-workers
 
 loop2-less : tie.Need-loop2-less Inv-loop2 μ-loop2 Inv-loop μ-loop
 loop2-less c =
-    let s = c .before .before .before .before .before .before .before .before .before .before .before .before .before .before .before .before .before .before .before .before .before .before .before .before .before .before .before .before .before .before .before .before .before .before .before .before .before .before .before .before .before .before .before .before .before .before .before .before .before .before .before .before .before .before .before .before .before .before .before .before .before .before .before .before .before .before .before .before in
-    let z = s .pre in
-    let m = c .before .before .before .before .before .before .before .before .before .before .before .before .before .before .before .before .before .before .before .before .before .before .before .before .before .before .before .before .before .before .before .loop2 in
+    let loop2-test′ = c .before .before .before .before .before .before .before .before .before .before .before .before .before .before .before .before .before .before .before .before .before .before .before .before .before .before .before .before .before .before .before .before .before .before .loop2-test in
+    let whose-turn′ = c .before .before .before .before .before .before .before .before .before .before .before .before .before .before .before .before .before .before .before .before .before .before .before .before .before .before .before .before .before .before .before .before .before .whose-turn in
+    let step′ = c .before .before .before .before .before .before .before .before .before .before .before .before .before .before .before .before .before .before .before .before .before .before .before .before .before .before .step in
+    let z = c .before .before .before .before .before .before .before .before .before .before .before .before .before .before .before .before .before .before .before .before .before .before .before .before .before .before .before .before .before .before .before .before .before .before .before .before .before .before .before .before .before .before .before .before .before .before .before .before .before .before .before .before .before .before .before .before .before .before .before .before .before .before .before .before .before .before .before .before .before .before .before .before .before .pre in
+    let m = c .before .before .before .before .before .before .before .before .before .before .before .before .before .before .before .before .before .before .before .before .before .before .before .before .before .before .before .before .before .before .before .before .before .before .before .loop2 in
     let u = m .inv .5 in
-    rw (c .before .entries-on .ensures) (within-less (z .sound) (m .inv .1) (m .inv .2) (u .lent-fits) (z .turns-known) (u .within) (c .before .before .before .before .before .before .before .before .before .before .before .before .before .before .before .before .before .before .before .before .before .before .before .before .before .before .before .before .before .before .loop2-test .taken) (c .before .before .before .before .before .before .before .before .before .before .before .before .before .before .before .before .before .before .before .before .before .before .before .before .before .before .before .before .before .whose-turn .ensures) (c .before .before .before .before .before .before .before .before .before .before .before .before .before .before .before .before .before .before .before .before .before .before .before .turn .ensures))
+    let k = below-eight (whose-known (z .sound) (m .inv .1) (m .inv .2) (u .lent-fits) (z .turns-known) (u .within) (loop2-test′ .taken) (whose-turn′ .ensures)) (z .few-workers) in
+    let t = hand-turn (in-table (set (m .workers) (m .held) (m .worker)) k (u .within .running .tally .table)) (in-hand (c .before .before .before .before .before .before .before .before .before .before .before .before .before .before .before .before .before .before .before .before .before .before .before .before .before .before .before .before .before .before .before .before)) (step′ .ensures) in
+    rw (put-down (c .before .before .before .before .before .before .before .before .before .before .before .before .before .before .before .before .before .before .before .before .before .before .before .before .before .before .before .before .before .before .before .before .if1 .workers) (c .before .before .before .before .before .before .before .before .before .before .before .before .before .before .before .before .before .before .before .before .before .before .before .before .before .before .before .before .before .before .before .before .if1 .held) (step′ .result .worker), c .before .before .before .before .entries-on .ensures) (within-less (z .sound) (m .inv .1) (m .inv .2) (u .lent-fits) (z .turns-known) (u .within) (loop2-test′ .taken) (whose-turn′ .ensures) t)
 
 loop2-again : tie.Need-loop2-again Inv-loop2 μ-loop2 Inv-loop μ-loop
 loop2-again c =
-    let s = c .before .before .before .before .before .before .before .before .before .before .before .before .before .before .before .before .before .before .before .before .before .before .before .before .before .before .before .before .before .before .before .before .before .before .before .before .before .before .before .before .before .before .before .before .before .before .before .before .before .before .before .before .before .before .before .before .before .before .before .before .before .before .before .before .before .before .before .before in
-    let z = s .pre in
-    let m = c .before .before .before .before .before .before .before .before .before .before .before .before .before .before .before .before .before .before .before .before .before .before .before .before .before .before .before .before .before .before .before .loop2 in
-    let n = c .before .before .before .before .before .before .before .before .before .before .note .ensures in (
+    let loop2-test′ = c .before .before .before .before .before .before .before .before .before .before .before .before .before .before .before .before .before .before .before .before .before .before .before .before .before .before .before .before .before .before .before .before .before .before .loop2-test in
+    let whose-turn′ = c .before .before .before .before .before .before .before .before .before .before .before .before .before .before .before .before .before .before .before .before .before .before .before .before .before .before .before .before .before .before .before .before .before .whose-turn in
+    let step′ = c .before .before .before .before .before .before .before .before .before .before .before .before .before .before .before .before .before .before .before .before .before .before .before .before .before .before .step in
+    let entries-on′ = c .before .before .before .before .entries-on in
+    let z = c .before .before .before .before .before .before .before .before .before .before .before .before .before .before .before .before .before .before .before .before .before .before .before .before .before .before .before .before .before .before .before .before .before .before .before .before .before .before .before .before .before .before .before .before .before .before .before .before .before .before .before .before .before .before .before .before .before .before .before .before .before .before .before .before .before .before .before .before .before .before .before .before .before .pre in
+    let m = c .before .before .before .before .before .before .before .before .before .before .before .before .before .before .before .before .before .before .before .before .before .before .before .before .before .before .before .before .before .before .before .before .before .before .before .loop2 in
+    let u = m .inv .5 in
+    let k = below-eight (whose-known (z .sound) (m .inv .1) (m .inv .2) (u .lent-fits) (z .turns-known) (u .within) (loop2-test′ .taken) (whose-turn′ .ensures)) (z .few-workers) in
+    let t = hand-turn (in-table (set (m .workers) (m .held) (m .worker)) k (u .within .running .tally .table)) (in-hand (c .before .before .before .before .before .before .before .before .before .before .before .before .before .before .before .before .before .before .before .before .before .before .before .before .before .before .before .before .before .before .before .before)) (step′ .ensures) in
+    let n = c .before .before .before .before .before .before .before .before .before .before .before .before .before .note .ensures in
+    let l = c .lowest2 .ensures in (
       m .inv .0,
       m .inv .1,
       m .inv .2,
       m .inv .3,
       m .inv .4,
-      underway-turn (z .sound) (m .inv .1) (m .inv .2) (z .turns-known) (m .inv .5) (c .before .before .before .before .before .before .before .before .before .before .before .before .before .before .before .before .before .before .before .before .before .before .before .before .before .before .before .before .before .before .loop2-test .taken) (c .before .before .before .before .before .before .before .before .before .before .before .before .before .before .before .before .before .before .before .before .before .before .before .before .before .before .before .before .before .whose-turn .ensures) (c .before .before .before .before .before .before .before .before .before .before .before .before .before .before .before .before .before .before .before .before .before .before .before .turn .ensures) (c .lowest2 .ensures) (n .1) (c .before .entries-on .ensures) (n .0),
-      carried-turn (z .sound) (m .inv .1) (m .inv .2) (z .turns-known) (m .inv .6) (c .before .before .before .before .before .before .before .before .before .before .before .before .before .before .before .before .before .before .before .before .before .before .before .before .before .before .before .before .before .before .loop2-test .taken) (c .before .before .before .before .before .before .before .before .before .before .before .before .before .before .before .before .before .before .before .before .before .before .before .before .before .before .before .before .before .whose-turn .ensures) (c .before .before .before .before .before .before .before .before .before .before .before .before .before .before .before .before .before .before .before .before .before .before .before .turn .ensures) (c .lowest2 .ensures) (n .1) (c .before .entries-on .ensures) (n .0),
+      rw (put-down (c .before .before .before .before .before .before .before .before .before .before .before .before .before .before .before .before .before .before .before .before .before .before .before .before .before .before .before .before .before .before .before .before .if1 .workers) (c .before .before .before .before .before .before .before .before .before .before .before .before .before .before .before .before .before .before .before .before .before .before .before .before .before .before .before .before .before .before .before .before .if1 .held) (step′ .result .worker)) (underway-turn (z .sound) (m .inv .1) (m .inv .2) (z .turns-known) (m .inv .5) (loop2-test′ .taken) (whose-turn′ .ensures) t l (n .1) (entries-on′ .ensures) (n .0)),
+      rw (put-down (c .before .before .before .before .before .before .before .before .before .before .before .before .before .before .before .before .before .before .before .before .before .before .before .before .before .before .before .before .before .before .before .before .if1 .workers) (c .before .before .before .before .before .before .before .before .before .before .before .before .before .before .before .before .before .before .before .before .before .before .before .before .before .before .before .before .before .before .before .before .if1 .held) (step′ .result .worker)) (carried-turn (z .sound) (m .inv .1) (m .inv .2) (z .turns-known) (m .inv .6) (loop2-test′ .taken) (whose-turn′ .ensures) t l (n .1) (entries-on′ .ensures) (n .0)),
+      held-inside (c .before .before .before .before .before .before .before .before .before .before .before .before .before .before .before .before .before .before .before .before .before .before .before .before .before .before .before .before .before .before .before .before),
     )
 
+loop2-less-2 : tie.Need-loop2-less-2 Inv-loop2 μ-loop2 Inv-loop μ-loop
+loop2-less-2 c =
+    let loop2-test′ = c .before .before .before .before .before .before .before .before .before .before .before .before .before .before .before .before .before .before .before .before .before .before .before .before .before .before .before .before .before .before .before .before .loop2-test in
+    let whose-turn′ = c .before .before .before .before .before .before .before .before .before .before .before .before .before .before .before .before .before .before .before .before .before .before .before .before .before .before .before .before .before .before .before .whose-turn in
+    let z = c .before .before .before .before .before .before .before .before .before .before .before .before .before .before .before .before .before .before .before .before .before .before .before .before .before .before .before .before .before .before .before .before .before .before .before .before .before .before .before .before .before .before .before .before .before .before .before .before .before .before .before .before .before .before .before .before .before .before .before .before .before .before .before .before .before .before .before .before .before .before .before .pre in
+    let m = c .before .before .before .before .before .before .before .before .before .before .before .before .before .before .before .before .before .before .before .before .before .before .before .before .before .before .before .before .before .before .before .before .before .loop2 in
+    let u = m .inv .5 in
+    let k = below-eight (whose-known (z .sound) (m .inv .1) (m .inv .2) (u .lent-fits) (z .turns-known) (u .within) (loop2-test′ .taken) (whose-turn′ .ensures)) (z .few-workers) in
+    let t = hand-turn (in-table (set (m .workers) (m .held) (m .worker)) k (u .within .running .tally .table)) (in-hand (c .before .before .before .before .before .before .before .before .before .before .before .before .before .before .before .before .before .before .before .before .before .before .before .before .before .before .before .before .before .before)) (c .before .before .before .before .before .before .before .before .before .before .before .before .before .before .before .before .before .before .before .before .before .before .before .before .step .ensures) in
+    rw (c .before .before .entries-on .ensures) (within-less (z .sound) (m .inv .1) (m .inv .2) (u .lent-fits) (z .turns-known) (u .within) (loop2-test′ .taken) (whose-turn′ .ensures) t)
+
+loop2-again-2 : tie.Need-loop2-again-2 Inv-loop2 μ-loop2 Inv-loop μ-loop
+loop2-again-2 c =
+    let loop2-test′ = c .before .before .before .before .before .before .before .before .before .before .before .before .before .before .before .before .before .before .before .before .before .before .before .before .before .before .before .before .before .before .before .before .loop2-test in
+    let whose-turn′ = c .before .before .before .before .before .before .before .before .before .before .before .before .before .before .before .before .before .before .before .before .before .before .before .before .before .before .before .before .before .before .before .whose-turn in
+    let step′ = c .before .before .before .before .before .before .before .before .before .before .before .before .before .before .before .before .before .before .before .before .before .before .before .before .step in
+    let entries-on′ = c .before .before .entries-on in
+    let z = c .before .before .before .before .before .before .before .before .before .before .before .before .before .before .before .before .before .before .before .before .before .before .before .before .before .before .before .before .before .before .before .before .before .before .before .before .before .before .before .before .before .before .before .before .before .before .before .before .before .before .before .before .before .before .before .before .before .before .before .before .before .before .before .before .before .before .before .before .before .before .before .pre in
+    let m = c .before .before .before .before .before .before .before .before .before .before .before .before .before .before .before .before .before .before .before .before .before .before .before .before .before .before .before .before .before .before .before .before .before .loop2 in
+    let u = m .inv .5 in
+    let k = below-eight (whose-known (z .sound) (m .inv .1) (m .inv .2) (u .lent-fits) (z .turns-known) (u .within) (loop2-test′ .taken) (whose-turn′ .ensures)) (z .few-workers) in
+    let t = hand-turn (in-table (set (m .workers) (m .held) (m .worker)) k (u .within .running .tally .table)) (in-hand (c .before .before .before .before .before .before .before .before .before .before .before .before .before .before .before .before .before .before .before .before .before .before .before .before .before .before .before .before .before .before)) (step′ .ensures) in
+    let n = c .before .before .before .before .before .before .before .before .before .before .before .note .ensures in
+    let l = hand-lowest (in-table (set (m .workers) (m .held) (m .worker)) k (u .within .running .tally .table)) (in-hand (c .before .before .before .before .before .before .before .before .before .before .before .before .before .before .before .before .before .before .before .before .before .before .before .before .before .before .before .before .before .before)) (step′ .ensures) (u .within .lowest) (not-false _ (c .if2 .left)) in (
+      m .inv .0,
+      m .inv .1,
+      m .inv .2,
+      m .inv .3,
+      m .inv .4,
+      (underway-turn (z .sound) (m .inv .1) (m .inv .2) (z .turns-known) (m .inv .5) (loop2-test′ .taken) (whose-turn′ .ensures) t l (n .1) (entries-on′ .ensures) (n .0)),
+      (carried-turn (z .sound) (m .inv .1) (m .inv .2) (z .turns-known) (m .inv .6) (loop2-test′ .taken) (whose-turn′ .ensures) t l (n .1) (entries-on′ .ensures) (n .0)),
+      held-inside (c .before .before .before .before .before .before .before .before .before .before .before .before .before .before .before .before .before .before .before .before .before .before .before .before .before .before .before .before .before .before),
+    )
+
+mul-workers-3 : tie.Need-mul-workers-3 Inv-loop2 μ-loop2 Inv-loop μ-loop
+mul-workers-3 c = scaled-fits _ maxWorkers _ (c .before .loop2 .inv .7) (lit< tt)
+
+array-set-from-workers-3 : tie.Need-array-set-from-workers-3 Inv-loop2 μ-loop2 Inv-loop μ-loop
+array-set-from-workers-3 c = c .before .loop2 .inv .7
+
 add-k : tie.Need-add-k Inv-loop2 μ-loop2 Inv-loop μ-loop
-add-k c = size-fits (c .before .before .before .before .before .before .before .loop .inv .1) (c .before .before .before .before .before .before .before .before .before .before .before .before .before .before .before .before .before .before .before .before .before .before .before .before .before .before .before .before .before .before .before .before .before .before .before .before .before .before .pre .sound .graph .few-tables)
+add-k c = size-fits (c .before .before .before .before .before .before .before .before .loop .inv .1) (c .before .before .before .before .before .before .before .before .before .before .before .before .before .before .before .before .before .before .before .before .before .before .before .before .before .before .before .before .before .before .before .before .before .before .before .before .before .before .before .pre .sound .graph .few-tables)
 
 loop-less : tie.Need-loop-less Inv-loop2 μ-loop2 Inv-loop μ-loop
-loop-less c = less-size (c .before .before .before .before .before .before .loop-test .taken)
+loop-less c = less-size (c .before .before .before .before .before .before .before .loop-test .taken)
 
 loop-again : tie.Need-loop-again Inv-loop2 μ-loop2 Inv-loop μ-loop
 loop-again c =
-    let s = c .before .before .before .before .before .before .before .before .before .before .before .before .before .before .before .before .before .before .before .before .before .before .before .before .before .before .before .before .before .before .before .before .before .before .before .before .before .before in
-    let z = s .pre in
-    let l = c .before .before .before .before .before .before .before .loop in
+    let open′ = c .before .before .before .before .«open» in
+    let z = c .before .before .before .before .before .before .before .before .before .before .before .before .before .before .before .before .before .before .before .before .before .before .before .before .before .before .before .before .before .before .before .before .before .before .before .before .before .before .before .pre in
+    let l = c .before .before .before .before .before .before .before .before .loop in
     let m = c .before .loop2 in
-    let w = m .inv .6 .carry _ _ (z .log-fits) (within-open (z .sound) (m .inv .1) (m .inv .2) (z .some-worker) (z .few-workers) (l .inv .6) (c .before .before .before .open .ensures) (c .before .before .lowest .ensures)) in (
+    let w = m .inv .6 .carry _ _ (z .log-fits) (hand-start (open′ .result) (within-open (z .sound) (m .inv .1) (m .inv .2) (z .some-worker) (z .few-workers) (l .inv .6) (open′ .ensures) (c .before .before .before .lowest .ensures))) in (
       below-two (m .inv .1),
       m .inv .2,
       l .inv .2,
@@ -191,38 +298,26 @@ counts-of-requires c κs = tt
 
 same-length : tie.Need-same-length Inv-loop2 μ-loop2 Inv-loop μ-loop
 same-length c =
-    let l = c .before .before .loop in
-    l .inv .6 .kept .costs .length-kept ∙ laid-length (c .before .before .before .before .before .before .before .before .before .before .before .before .before .before .before .before .before .before .before .before .before .before .before .before .before .before .before .before .before .before .before .before .before .args .costs .now) (c .before .before .before .before .before .before .before .before .before .before .before .before .before .before .before .before .before .before .before .before .before .before .before .before .before .before .before .before .before .before .before .before .before .args .scans .now) (c .before .before .before .before .before .before .lay-scans .ensures)
+    let s = c .before .before .before .before .before .before .before .before .before .before .before .before .before .before .before .before .before .before .before .before .before .before .before .before .before .before .before .before .before .before .before .before .before in
+    c .before .before .loop .inv .6 .kept .costs .length-kept ∙ laid-length (s .args .costs .now) (s .args .scans .now) (c .before .before .before .before .before .before .lay-scans .ensures)
 
 same-length-2 : tie.Need-same-length-2 Inv-loop2 μ-loop2 Inv-loop μ-loop
-same-length-2 c =
-    let l = c .before .before .loop in
-    l .inv .6 .kept .outers .length-kept
+same-length-2 c = c .before .before .loop .inv .6 .kept .outers .length-kept
 
 same-length-3 : tie.Need-same-length-3 Inv-loop2 μ-loop2 Inv-loop μ-loop
-same-length-3 c =
-    let l = c .before .before .loop in
-    l .inv .6 .kept .methods .length-kept
+same-length-3 c = c .before .before .loop .inv .6 .kept .methods .length-kept
 
 same-length-4 : tie.Need-same-length-4 Inv-loop2 μ-loop2 Inv-loop μ-loop
-same-length-4 c =
-    let l = c .before .before .loop in
-    logged-lengths (l .inv .6 .ran .logged) (c .before .before .before .before .before .before .before .before .before .before .before .before .before .before .before .before .before .before .before .before .before .before .before .before .before .before .before .before .before .before .before .before .before .pre .log-fits) .0
+same-length-4 c = logged-lengths (c .before .before .loop .inv .6 .ran .logged) (c .before .before .before .before .before .before .before .before .before .before .before .before .before .before .before .before .before .before .before .before .before .before .before .before .before .before .before .before .before .before .before .before .before .pre .log-fits) .0
 
 same-length-5 : tie.Need-same-length-5 Inv-loop2 μ-loop2 Inv-loop μ-loop
-same-length-5 c =
-    let l = c .before .before .loop in
-    logged-lengths (l .inv .6 .ran .logged) (c .before .before .before .before .before .before .before .before .before .before .before .before .before .before .before .before .before .before .before .before .before .before .before .before .before .before .before .before .before .before .before .before .before .pre .log-fits) .1
+same-length-5 c = logged-lengths (c .before .before .loop .inv .6 .ran .logged) (c .before .before .before .before .before .before .before .before .before .before .before .before .before .before .before .before .before .before .before .before .before .before .before .before .before .before .before .before .before .before .before .before .before .pre .log-fits) .1
 
 same-length-6 : tie.Need-same-length-6 Inv-loop2 μ-loop2 Inv-loop μ-loop
-same-length-6 c =
-    let l = c .before .before .loop in
-    logged-lengths (l .inv .6 .ran .logged) (c .before .before .before .before .before .before .before .before .before .before .before .before .before .before .before .before .before .before .before .before .before .before .before .before .before .before .before .before .before .before .before .before .before .pre .log-fits) .2
+same-length-6 c = logged-lengths (c .before .before .loop .inv .6 .ran .logged) (c .before .before .before .before .before .before .before .before .before .before .before .before .before .before .before .before .before .before .before .before .before .before .before .before .before .before .before .before .before .before .before .before .before .pre .log-fits) .2
 
 same-length-7 : tie.Need-same-length-7 Inv-loop2 μ-loop2 Inv-loop μ-loop
-same-length-7 c =
-    let l = c .before .before .loop in
-    logged-lengths (l .inv .6 .ran .logged) (c .before .before .before .before .before .before .before .before .before .before .before .before .before .before .before .before .before .before .before .before .before .before .before .before .before .before .before .before .before .before .before .before .before .pre .log-fits) .3
+same-length-7 c = logged-lengths (c .before .before .loop .inv .6 .ran .logged) (c .before .before .before .before .before .before .before .before .before .before .before .before .before .before .before .before .before .before .before .before .before .before .before .before .before .before .before .before .before .before .before .before .before .pre .log-fits) .3
 
 returns : tie.Need-returns Inv-loop2 μ-loop2 Inv-loop μ-loop
 returns c =
@@ -251,16 +346,27 @@ search-spec =
     slice-aggregate-open-2
     open-requires
     lowest-requires
+    array-copy-out-worker
     loop2-holds
     whose-turn-requires
-    slice-aggregate-turn
-    slice-aggregate-turn-2
-    turn-requires
+    mul-workers
+    array-set-from-workers
+    mul-worker
+    array-copy-out-worker-2
+    slice-aggregate-step
+    slice-aggregate-step-2
+    step-requires
     note-requires
     entries-on-requires
+    mul-workers-2
+    array-set-from-workers-2
     lowest-requires-2
     loop2-less
     loop2-again
+    loop2-less-2
+    loop2-again-2
+    mul-workers-3
+    array-set-from-workers-3
     add-k
     loop-less
     loop-again
