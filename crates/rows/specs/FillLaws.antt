@@ -55,7 +55,7 @@ ahead-at : {M : List ℕ} {a b : ℕ} {xs ys : List ℕ} → Ahead M a xs → a 
 ahead-at h e f = record { front = h .front; behind = h .behind; whole = ap (λ (l : List ℕ). h .front ++ (l ++ h .behind)) (sym f) ∙ h .whole; place = h .place ∙ e }
 
 -- ---- kept cells
-pub kept-same : (W old : List ℕ) → Kept W old old
+kept-same : (W old : List ℕ) → Kept W old old
 kept-same W old = record { cells = λ i. inl refl }
 
 kept-on : {W old mid new : List ℕ} → Kept W old mid → Kept W mid new → Kept W old new
@@ -252,7 +252,7 @@ size-at g (suc k) i l = go (decLt i (length (upTo g k))) (λ h. size-at g k i h)
     go (no h) ih = (k, omega arith, omega arith, omega (arith, e))
 
 -- so the list begins with W, and else is as it was
-pub laid-whole : (W old : List ℕ) {new : List ℕ} → length new ≡ length old → length W ≤ length old → Kept W old new → ((i : ℕ) → i < length W → getD new i 0 ≡ getD W i 0) → new ≡ sets old 0 W
+laid-whole : (W old : List ℕ) {new : List ℕ} → length new ≡ length old → length W ≤ length old → Kept W old new → ((i : ℕ) → i < length W → getD new i 0 ≡ getD W i 0) → new ≡ sets old 0 W
 laid-whole W old {new} n m k h = ext-getD 0 new (W ++ drop (length W) old) (n ∙ sym long) each ∙ sym whole
   where
     long : length (W ++ drop (length W) old) ≡ length old

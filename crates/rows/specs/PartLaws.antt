@@ -15,16 +15,16 @@ use lib.Seq.{getD-set-same, getD-set-other}
 use borrow.Author.Tests.{eq-eqb, ne-eqb}
 use Rattle.rules.specs.Limits.{maxTables, maxRows, maxEstimate}
 use Rattle.rules.specs.Sets.{holds, Splits, single, Lowest}
-use Rattle.rules.specs.Query.{Graph, tableCount, edgeCount, at, IsTable, Linked, Joins}
-use Rattle.rules.specs.Checked.{EdgeGood, GoodGraph}
+use Rattle.rules.specs.Query.{Graph, tableCount, edgeCount, at, IsTable, Joins}
+use Rattle.rules.specs.Checked.{GoodGraph}
 use Rattle.rules.specs.Estimate.{joinsAt, divided, byEdges, byLower, withTable, running, estimate}
-use Rattle.rules.specs.laws.Bools.{true-or-false, not-both}
+use Rattle.rules.specs.laws.Bools.{true-or-false}
 use Rattle.rules.specs.laws.Sets.{bit-le, holds-bit, holds-none, holds-pos, holds-lt, lt-of-holds, holds-sum, holds-single, holds-single-only, holds-out, holds-minus, union-of}
 use Rattle.rules.specs.laws.Refusals.{joins-true, true-joins}
 use Rattle.rules.specs.laws.Estimate.{running-le}
 use Rattle.query.specs.EstimateLaws.{running-step}
 use Rattle.rows.specs.WalkLaws.{apart-tables, below-with}
-use Rattle.rows.specs.Near.{Near, Node}
+use Rattle.rows.specs.Near.{Node}
 use Rattle.rows.specs.NearLaws.{both-of, both-in, in-right}
 use Rattle.rows.specs.Parts.{cellOf, Own, Parts, byParts, Divides, Valued}
 

@@ -1,8 +1,8 @@
 // Writing the rows of all sizes in one walk: each size has a place in the columns, and a row is written at its size's.
 ghost use mathlib.Core.Path.{_≡_};
-ghost use mathlib.Core.Bool.{Bool, true, cond};
+ghost use mathlib.Core.Bool.{true, cond};
 ghost use mathlib.Core.List.{map};
-ghost use Prim.Native.Nat.{ℕ, _+_, _≤_, _<_};
+ghost use Prim.Native.Nat.{_+_, _≤_, _<_};
 ghost use lib.ListN.{length, set};
 ghost use lib.Seq.{sets};
 ghost use Rattle.rules.specs.Query.{Graph, graphOf};
@@ -67,8 +67,34 @@ fn fill_from(
     let after = t + 1;
     let larger = size + 1;
     starts[larger] = put(row, with, more, out, estimates, starts[larger]);
-    fill_from(near, parts, tables, after, with, wider, row, larger, more, starts, out, estimates);
-    fill_from(near, parts, tables, after, chosen, around, joined, size, e, starts, out, estimates);
+    fill_from(
+        near,
+        parts,
+        tables,
+        after,
+        with,
+        wider,
+        row,
+        larger,
+        more,
+        starts,
+        out,
+        estimates,
+    );
+    fill_from(
+        near,
+        parts,
+        tables,
+        after,
+        chosen,
+        around,
+        joined,
+        size,
+        e,
+        starts,
+        out,
+        estimates,
+    );
 }
 
 // Writes the sets and the estimates of all rows, in memo order; `counts` is their tally.
@@ -96,5 +122,18 @@ pub fn lay_rows(
         at += counts[k + 1];
     }
     let tables = rows.len() as u64;
-    fill_from(&near, &parts, tables, 1, 0, 0, false, 0, 1, &mut starts, out, estimates);
+    fill_from(
+        &near,
+        &parts,
+        tables,
+        1,
+        0,
+        0,
+        false,
+        0,
+        1,
+        &mut starts,
+        out,
+        estimates,
+    );
 }

@@ -1,13 +1,13 @@
 // What each table brings to an estimate, in one array: the cell of t and t has the rows of t, that of t and u the divisor of their edge.
 ghost use mathlib.Core.Path.{_≡_};
-ghost use Prim.Native.Nat.{ℕ, _+_, _-_, _*_, _^_, _≤_, _<_, min};
+ghost use Prim.Native.Nat.{_+_, _-_, _*_, _≤_, min};
 ghost use lib.ListN.{length, getD};
 ghost use Rattle.rules.specs.Limits.{maxTables, maxRows, maxEstimate};
 ghost use Rattle.rules.specs.Query.{graphOf, edgeCount};
 ghost use Rattle.rules.specs.Checked.{GoodGraph};
 ghost use Rattle.rows.specs.Parts.{cellOf, Own, Parts, Divides, byParts};
-use query::estimate::raised;
 use query::estimate::MAX_ESTIMATE;
+use query::estimate::raised;
 use sets::lowest_table;
 use sets::single;
 

@@ -508,8 +508,8 @@ fill-from-returns-3 t c =
     let put′ = c .before .before .before .before .before .before .before .before .before .before .before .before .before .before .before .before .before .before .before .before .before .before .before .before .put in
     let with-part′ = c .before .before .before .before .before .before .before .before .before .before .before .before .before .before .before .before .before .before .before .before .before .before .before .before .before .before .before .before .with-part in
     λ g d.
-      let first = fill-from′ .ensures g (filling-with (d) (single′ .result) (grows′ .result) (omega (arith, if1′ .left)) (single′ .ensures) (grows′ .ensures .told g (s .args .tables) (s .args .t) (d .node) (omega (arith, if1′ .left)) (single′ .ensures)) (put′ .ensures .0) (with-part′ .ensures) (put′ .kept .1 .1 .1 .0) (put′ .kept .1 .1 .1 .1 .0)) in
-      filled-step (d) (single′ .result) (grows′ .result) (omega (arith, if1′ .left)) (single′ .ensures) (grows′ .ensures .told g (s .args .tables) (s .args .t) (d .node) (omega (arith, if1′ .left)) (single′ .ensures)) (put′ .ensures .0) (with-part′ .ensures) (put′ .kept .1 .1 .1 .0) (put′ .kept .1 .1 .1 .1 .0) first (put′ .ensures .1 .0) (put′ .ensures .1 .1) (c .before .before .before .before .before .before .fill-from2 .ensures g (filling-without (d) (single′ .result) (grows′ .result) (omega (arith, if1′ .left)) (single′ .ensures) (grows′ .ensures .told g (s .args .tables) (s .args .t) (d .node) (omega (arith, if1′ .left)) (single′ .ensures)) (put′ .ensures .0) (with-part′ .ensures) (put′ .kept .1 .1 .1 .0) (put′ .kept .1 .1 .1 .1 .0) first (fill-from′ .kept .1 .1 .1 .1 .1 .1 .1 .1 .1 .0) (fill-from′ .kept .1 .1 .1 .1 .1 .1 .1 .1 .1 .1 .0) (fill-from′ .kept .1 .1 .1 .1 .1 .1 .1 .1 .1 .1 .1 .0)))
+    let first = fill-from′ .ensures g (filling-with (d) (single′ .result) (grows′ .result) (omega (arith, if1′ .left)) (single′ .ensures) (grows′ .ensures .told g (s .args .tables) (s .args .t) (d .node) (omega (arith, if1′ .left)) (single′ .ensures)) (put′ .ensures .0) (with-part′ .ensures) (put′ .kept .1 .1 .1 .0) (put′ .kept .1 .1 .1 .1 .0)) in
+    filled-step (d) (single′ .result) (grows′ .result) (omega (arith, if1′ .left)) (single′ .ensures) (grows′ .ensures .told g (s .args .tables) (s .args .t) (d .node) (omega (arith, if1′ .left)) (single′ .ensures)) (put′ .ensures .0) (with-part′ .ensures) (put′ .kept .1 .1 .1 .0) (put′ .kept .1 .1 .1 .1 .0) first (put′ .ensures .1 .0) (put′ .ensures .1 .1) (c .before .before .before .before .before .before .fill-from2 .ensures g (filling-without (d) (single′ .result) (grows′ .result) (omega (arith, if1′ .left)) (single′ .ensures) (grows′ .ensures .told g (s .args .tables) (s .args .t) (d .node) (omega (arith, if1′ .left)) (single′ .ensures)) (put′ .ensures .0) (with-part′ .ensures) (put′ .kept .1 .1 .1 .0) (put′ .kept .1 .1 .1 .1 .0) first (fill-from′ .kept .1 .1 .1 .1 .1 .1 .1 .1 .1 .0) (fill-from′ .kept .1 .1 .1 .1 .1 .1 .1 .1 .1 .1 .0) (fill-from′ .kept .1 .1 .1 .1 .1 .1 .1 .1 .1 .1 .1 .0)))
 
 pub +fill-from-spec : {M : Type 1} → statement M
 +fill-from-spec = close μ-fill-from λ t. fill-from-lts.spec (

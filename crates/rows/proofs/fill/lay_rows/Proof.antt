@@ -10,7 +10,7 @@ use Rattle.rows.proofs.fill.lay_rows.Statement.{statement}
 use Rattle.rows.proofs.fill.lay_rows.Tie as tie
 
 abbrev Inv-loop : tie.InvT-loop
-Inv-loop rows left right divisors counts out estimates near parts starts₀ at₀ k₀ k-end starts at k = 
+Inv-loop rows left right divisors counts out estimates near parts starts₀ at₀ k₀ k-end starts at k =
     (k ≤ length rows) × (k-end ≡ length rows) × (length starts ≡ 17) × (at ≤ k * 65536) × (at ≡ length (upTo (graphOf rows left right divisors) k))
     × ((s : ℕ) → s ≤ k → getD starts s 0 ≡ length (upTo (graphOf rows left right divisors) (s - 1)))
 

@@ -1,5 +1,5 @@
-use mathlib.Core.Path.{_≡_, refl, sym, ap, _∙_}
-use Prim.Native.Nat.{_-_, _*_}
+use mathlib.Core.Path.{_≡_, refl, sym, _∙_}
+use Prim.Native.Nat.{_-_}
 use native.Mathlib.Omega.{arith}
 use Rattle.rows.specs.Parts.{byParts, Divides}
 use Rattle.rows.specs.PartLaws.{cell-fits, linked-none, linked-step, divides-rest, rest-less, lowest-fits, divisor-at, divides-fits}

@@ -1,5 +1,5 @@
 use mathlib.Core.Path.{_≡_, refl, _∙_}
-use Prim.Native.Nat.{_+_, _-_, _≤_}
+use Prim.Native.Nat.{_-_, _≤_}
 use native.Mathlib.Omega.{arith}
 use lib.ListN.{length, getD, set, length-set}
 use Rattle.rules.specs.Query.{graphOf}
