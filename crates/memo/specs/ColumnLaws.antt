@@ -1,17 +1,16 @@
 -- Laws of columns: one more store.
-use mathlib.Core.Path.{_≡_, refl, sym, ap, _∙_}
-use mathlib.Core.List.{List, [], _∷_, _++_, map, map-append}
+use mathlib.Core.Path.{_≡_, refl, ap, _∙_}
+use mathlib.Core.List.{List, [], _∷_, _++_}
 use Prim.Native.Nat.{ℕ, zero, suc, _+_, _*_, _≤_, _<_}
 use native.Mathlib.Nat.{mul-le-mul}
 use native.Mathlib.Decide.{decLt}
 use native.Mathlib.Omega.{arith}
 use native.Mathlib.Numerals.{add-one}
-use lib.ListN.{length, getD, set, take, length-append, length-take, replicate, length-replicate, getD-replicate, replicate-append-replicate, List·getD-append, List·getD-eq-default}
-use lib.Seq.{take-suc, set-comm, getD-at}
+use lib.ListN.{length, getD, set, length-append, replicate, length-replicate, getD-replicate, replicate-append-replicate, List·getD-append, List·getD-eq-default}
+use lib.Seq.{set-comm, getD-at}
 use Rattle.rules.specs.Limits.{maxTables}
 use Rattle.rules.specs.Query.{Graph, tableCount}
 use Rattle.rules.specs.Rows.{rowsOf}
-use Rattle.rules.specs.laws.Lists.{length-map}
 use Rattle.rows.specs.WalkLaws.{rows-fit}
 use Rattle.skips.specs.Vectors.{written}
 use Rattle.memo.specs.Layout.{countsTo}
@@ -25,15 +24,6 @@ written-push d at i (x ∷ p) v e = written-push (set d at x) (suc at) i p v (om
 store-ahead : (d : List ℕ) (i j v : ℕ) (p : List ℕ) → j < i → set (written d i p) j v ≡ written (set d j v) i p
 store-ahead d i j v [] h = refl
 store-ahead d i j v (x ∷ p) h = store-ahead (set d i x) (suc i) j v p (omega arith) ∙ ap (λ (l : List ℕ). written l (suc i) p) (set-comm d i j x v (λ e. omega arith))
-
--- a column of f: one more row, where v is its value
-pub column-more : (f : ℕ → ℕ) (s d : List ℕ) (i : ℕ) {l : List ℕ} {v : ℕ} → i < length s → l ≡ written d 0 (map f (take i s)) → v ≡ f (getD s i 0)
-    → set l i v ≡ written d 0 (map f (take (i + 1) s))
-column-more f s d i h e w =
-    rw (e, w) (
-    written-push d 0 i (map f (take i s)) (f (getD s i 0)) (omega (arith, length-map f (take i s), length-take i s))
-    ∙ ap (written d 0) (sym (ap (map f) (ap (λ (k : ℕ). take k s) (add-one i) ∙ take-suc s i 0 h) ∙ map-append f (take i s) (getD s i 0 ∷ [])))
-    )
 
 -- a column of zeros: one more
 pub zeros-more : (d : List ℕ) (i : ℕ) {l : List ℕ} → l ≡ written d 0 (replicate i 0) → set l i 0 ≡ written d 0 (replicate (i + 1) 0)

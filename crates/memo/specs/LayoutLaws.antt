@@ -1,6 +1,6 @@
 -- Laws of laying out: the rows of one size in a list of all rows, their skip cells after those of the smaller sizes, the columns, the one outcome.
 use mathlib.Core.Path.{_≡_, refl, sym, ap, ap₂, _∙_}
-use mathlib.Core.List.{List, [], _++_, map, append-nil, _∷_}
+use mathlib.Core.List.{List, [], _++_, append-nil, _∷_}
 use Prim.Native.Nat.{ℕ, _+_, _-_, _*_, _≤_, _<_}
 use native.Mathlib.Nat.{zero-add}
 use native.Mathlib.Decide.{decLt}
@@ -11,7 +11,6 @@ use lib.Seq.{slice, take-take, take-at, drop-at, sets-eq, length-sets}
 use Rattle.rules.specs.Limits.{maxTables}
 use Rattle.rules.specs.Lists.{inRow, over}
 use Rattle.rules.specs.Query.{Graph, tableCount, Query}
-use Rattle.rules.specs.Estimate.{estimate}
 use Rattle.rules.specs.Rows.{rowsOf, memo}
 use Rattle.rules.specs.Skips.{vectorsFrom, vectors, skips}
 use Rattle.rules.specs.Refusals.{Input, refuse, firstOf, rooms, groups, checksOf}
@@ -129,9 +128,6 @@ front v d {l} {n} h e w = ap (take n) (w ∙ written-over v d h) ∙ take-at v (
 
 pub still-long : (v d : List ℕ) {l : List ℕ} → l ≡ written d 0 v → length l ≡ length d
 still-long v d w = ap length w ∙ length-sets d 0 v
-
-pub estimates-laid : (g : Graph) (old : List ℕ) {l v : List ℕ} → v ≡ memo g → l ≡ written old 0 (map (estimate g) v) → l ≡ written old 0 (map (estimate g) (memo g))
-estimates-laid g old t w = w ∙ ap (λ (v : List ℕ). written old 0 (map (estimate g) v)) t
 
 pub zeros-laid : (g : Graph) (old : List ℕ) {l : List ℕ} {n : ℕ} → n ≡ length (memo g) → l ≡ written old 0 (replicate n 0) → l ≡ written old 0 (replicate (length (memo g)) 0)
 zeros-laid g old e w = w ∙ ap (λ (k : ℕ). written old 0 (replicate k 0)) e

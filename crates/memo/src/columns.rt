@@ -1,37 +1,15 @@
-// The memo's columns beside its sets: estimates, cells that the search will fill, where the rows of each size begin.
+// The memo's columns beside its sets and estimates: cells that the search will fill, where the rows of each size begin.
 ghost use mathlib.Core.Path.{_≡_};
-ghost use mathlib.Core.List.{map};
 ghost use Prim.Native.Nat.{_+_, _≤_};
-ghost use lib.ListN.{length, take, replicate};
+ghost use lib.ListN.{length, replicate};
 ghost use Rattle.rules.specs.Query.{graphOf};
 ghost use Rattle.rules.specs.Checked.{GoodGraph};
-ghost use Rattle.rules.specs.Estimate.{estimate};
 ghost use Rattle.skips.specs.Vectors.{written};
 ghost use Rattle.memo.specs.Layout.{starts, cellStarts};
-use query::estimate::estimate;
 use rows::tally::tally;
 
 // Room for a number of each size: sizes 0 to N, of at most 16 tables.
 pub const SIZES: usize = 17;
-
-// Writes the estimates of the first `count` sets.
-pub fn lay_estimates(
-    rows: &[u64],
-    left: &[u64],
-    right: &[u64],
-    divisors: &[u64],
-    sets: &[u64],
-    count: usize,
-    out: &mut [u64],
-)
-    requires { ⌜ GoodGraph (graphOf (now rows) (now left) (now right) (now divisors)) ⌝ }
-    requires { ⌜ (count ≤ length (now sets)) × (count ≤ length (now out)) ⌝ }
-    ensures { λ _. ⌜ now (out .exit) ≡ written (now (out .entry)) 0 (map (estimate (graphOf (now (rows .entry)) (now (left .entry)) (now (right .entry)) (now (divisors .entry)))) (take count (now (sets .entry)))) ⌝ }
-{
-    for i in 0..count {
-        out[i] = estimate(rows, left, right, divisors, sets[i]);
-    }
-}
 
 // Clears the first `count` cells.
 pub fn lay_zeros(count: usize, out: &mut [u64])

@@ -9,10 +9,9 @@ ghost use Rattle.rules.specs.Skips.{skips};
 ghost use Rattle.rows.specs.Near.{Tally};
 ghost use Rattle.skips.specs.Vectors.{written};
 ghost use Rattle.memo.specs.Layout.{lent, OneLength, Room, laid, answered, LaidOut};
-use super::columns::lay_estimates;
-use super::columns::lay_zeros;
 use super::columns::SIZES;
-use rows::fill::lay_sets;
+use super::columns::lay_zeros;
+use rows::fill::lay_rows;
 use rows::tally::all_cells;
 use rows::tally::all_rows;
 use rows::tally::tally;
@@ -83,8 +82,7 @@ fn lay_columns(
     requires { ⌜ count ≡ length (memo (graphOf (now rows) (now left) (now right) (now divisors))) ⌝ }
     ensures { λ _. ⌜ lent (now (sets .exit)) (now (estimates .exit)) (now (costs .exit)) (now (outers .exit)) (now (methods .exit)) (now (skips .exit)) ≡ laid (graphOf (now (rows .entry)) (now (left .entry)) (now (right .entry)) (now (divisors .entry))) (lent (now (sets .entry)) (now (estimates .entry)) (now (costs .entry)) (now (outers .entry)) (now (methods .entry)) (now (skips .entry))) ⌝ }
 {
-    lay_sets(rows, left, right, divisors, counts, sets);
-    lay_estimates(rows, left, right, divisors, sets, count, estimates);
+    lay_rows(rows, left, right, divisors, counts, sets, estimates);
     lay_zeros(count, costs);
     lay_zeros(count, outers);
     lay_zeros(count, methods);

@@ -16,7 +16,7 @@ use sets::has_table;
 pub const MAX_ESTIMATE: u64 = 1_000_000_000_000;
 
 // At least 1: for rows, where 0 counts as 1, and for quotients.
-fn raised(n: u64) -> u64
+pub fn raised(n: u64) -> u64
     ensures { λ r. ⌜ r ≡ max 1 n ⌝ }
 {
     if n == 0 {

@@ -1,29 +1,34 @@
--- Laws of writing the rows of all sizes in one walk: places in the list of all rows, one step, and the whole.
+-- Laws of writing the rows of all sizes in one walk: places in the list of all rows, a column, one step, and the whole.
 use mathlib.Core.Path.{_≡_, refl, sym, ap, _∙_}
 use mathlib.Core.Bool.{Bool, true, false, cond}
-use mathlib.Core.List.{List, [], _∷_, _++_}
+use mathlib.Core.List.{List, [], _∷_, _++_, map}
 use mathlib.Core.Logic.{_⊎_, inl, inr}
-use Prim.Native.Nat.{ℕ, zero, suc, _+_, _-_, _≤_, _<_}
+use Prim.Native.Nat.{ℕ, zero, suc, _+_, _-_, _*_, _≤_, _<_, min}
 use native.Mathlib.Nat.{zero-add}
 use native.Mathlib.Decide.{decLt, ℕ-discrete}
 use native.Mathlib.Omega.{arith}
-use lib.Bits.{bitOr}
+use lib.Bits.{bitAnd, bitOr}
 use lib.ListN.{length, getD, set, drop, length-append, length-set, length-drop, List·getD-append}
 use lib.Seq.{getD-set-same, getD-set-other, getD-at, getD-append-add, getD-drop, ext-getD, sets, sets-eq}
-use borrow.Author.Tests.{eq-eqb, le-ltb}
+use borrow.Author.Tests.{eq-eqb}
 use Rattle.rules.specs.Lists.{isYes, inRow}
 use Rattle.rules.specs.Sets.{single}
-use Rattle.rules.specs.Query.{Graph, tableCount, at}
+use Rattle.rules.specs.Limits.{maxEstimate}
+use Rattle.rules.specs.Query.{Graph, tableCount, edgeCount, at}
 use Rattle.rules.specs.Checked.{GoodGraph}
+use Rattle.rules.specs.Estimate.{estimate}
 use Rattle.rules.specs.Rows.{rowsOf, memo}
-use Rattle.rules.specs.laws.Lists.{row-split}
+use Rattle.rules.specs.laws.Lists.{row-split, at-map, length-map}
 use Rattle.rules.specs.laws.Bools.{true-or-false}
 use Rattle.rules.specs.laws.Decide.{connected?}
 use Rattle.rows.specs.Walk.{upTo}
 use Rattle.rows.specs.WalkLaws.{upTo-none, upTo-more, upTo-end, length-more}
-use Rattle.rows.specs.Near.{Near, Node, found, here, Tallied, Ahead, Kept, Placed, Laid, Filled, Filling}
+use Rattle.rows.specs.Near.{Near, found, here, Tallied}
 use Rattle.rows.specs.NodeLaws.{node-with, node-without, found-step, found-first, count-here, tallied-none, tallied-step}
 use Rattle.rows.specs.TallyLaws.{root}
+use Rattle.rows.specs.Parts.{cellOf, Parts, byParts}
+use Rattle.rows.specs.PartLaws.{valued-with, valued-without, with-estimate, valued-root}
+use Rattle.rows.specs.Fill.{Ahead, Kept, Placed, Laid, Filled, Filling}
 
 -- ---- places
 append-assoc : (a b c : List ℕ) → (a ++ b) ++ c ≡ a ++ (b ++ c)
@@ -50,7 +55,7 @@ ahead-at : {M : List ℕ} {a b : ℕ} {xs ys : List ℕ} → Ahead M a xs → a 
 ahead-at h e f = record { front = h .front; behind = h .behind; whole = ap (λ (l : List ℕ). h .front ++ (l ++ h .behind)) (sym f) ∙ h .whole; place = h .place ∙ e }
 
 -- ---- kept cells
-pub kept-same : (W old : List ℕ) → Kept W old old
+kept-same : (W old : List ℕ) → Kept W old old
 kept-same W old = record { cells = λ i. inl refl }
 
 kept-on : {W old mid new : List ℕ} → Kept W old mid → Kept W mid new → Kept W old new
@@ -76,8 +81,27 @@ kept-store W old k v l m e = record { cells = λ i. go i (ℕ-discrete i k) }
     go i (no z) = inl (getD-set-other old k i v 0 z)
 
 -- ---- nothing found
-pub filled-none : {g : Graph} {n t chosen z : ℕ} (starts old : List ℕ) → ((s : ℕ) → found g s z t (n + 1 - t) chosen ≡ []) → Filled g n t chosen z starts starts old old
-filled-none {g} starts old h = record { places = tallied-none starts h; sets = record { kept = kept-same (memo g) old; cells = λ s i l a b. absurd (omega arith) } }
+pub filled-none : {g : Graph} {n t chosen z : ℕ} (starts out values : List ℕ) → ((s : ℕ) → found g s z t (n + 1 - t) chosen ≡ []) → Filled g n t chosen z starts starts out out values values
+filled-none {g} starts out values h = record { places = tallied-none starts h; sets = none (memo g) out; estimates = none (map (estimate g) (memo g)) values }
+  where
+    none : {n : ℕ} (W old : List ℕ) → Laid W n starts starts old old
+    none W old = record { kept = kept-same W old; cells = λ s i l a b. absurd (omega arith) }
+
+-- ---- a column: v is written at place a where there is a row
+module _ (row : Bool) (a v : ℕ) (W old : List ℕ) {new : List ℕ} (there : row ≡ true → (a < length W) × (getD W a 0 ≡ v)) (m : length W ≤ length old) (o : new ≡ cond row (set old a v) old) where
+  kept-row : Kept W old new
+  kept-row = go (true-or-false row)
+    where
+      go : (row ≡ true) ⊎ (row ≡ false) → Kept W old new
+      go (inl q) =
+          let i : new ≡ set old a v = rw q at o in
+          rw i (kept-store W old a v (there q .0) (omega (arith, there q .0)) (sym (there q .1)))
+      go (inr q) = let i : new ≡ old = rw q at o in rw i (kept-same W old)
+
+  put-row : row ≡ true → getD new a 0 ≡ getD W a 0
+  put-row q =
+      let i : new ≡ set old a v = rw q at o in
+      rw i (getD-set-same old a v 0 (omega (arith, there q .0)) ∙ sym (there q .1))
 
 -- ---- one step: k is the place of the row that table t makes
 module _ {g : Graph} {n t chosen : ℕ} (z x : ℕ) (row : Bool) (starts : List ℕ) {v : ℕ} (l : t ≤ n) (e : x ≡ single t) (r : row ≡ isYes (connected? g (chosen + x)))
@@ -121,74 +145,67 @@ module _ {g : Graph} {n t chosen : ℕ} (z x : ℕ) (row : Bool) (starts : List 
       which j i a c d (no f) (yes q) = kept-right (second .kept) i (first .cells j i a (omega arith) q)
       which j i a c d (no f) (no q) = second .cells j i a (omega arith) d
 
--- ---- a node that fills
-module _ {near : List ℕ} {n t chosen around : ℕ} {joined : Bool} {z : ℕ} {starts out : List ℕ} (c : Filling near n t chosen around joined z starts out) (x : ℕ) (row : Bool) (l : t ≤ n) (e : x ≡ single t)
-    (r : (g : Graph) → Node g near n t chosen around joined → row ≡ isYes (connected? g (chosen + x))) where
+-- ---- a node that fills: x is table t as a set, `more` the estimate with it
+module _ {g : Graph} {near parts : List ℕ} {n t chosen around : ℕ} {joined : Bool} {z e : ℕ} {starts out values : List ℕ} (c : Filling g near parts n t chosen around joined z e starts out values) (x : ℕ) (row : Bool) (l : t ≤ n) (q : x ≡ single t)
+    (r : row ≡ isYes (connected? g (chosen + x))) where
+  abbrev place : ℕ
+  place = getD starts (z + 1) 0
+
+  abbrev estimates : List ℕ
+  estimates = map (estimate g) (memo g)
+
   inside : z + 1 < length starts
   inside = omega (arith, c .smaller, c .long)
 
   inside-n : z + 1 ≤ n
   inside-n = omega (arith, c .smaller)
 
-  pub fits-row : row ≡ true → getD starts (z + 1) 0 < length out
-  fits-row q = omega (arith, c .room, row-place z x row starts {v = cond row (getD starts (z + 1) 0 + 1) (getD starts (z + 1) 0)} l e (r (c .g) (c .node)) inside inside-n refl (c .placed) q .0)
+  there : row ≡ true → (place < length (memo g)) × (getD (memo g) (place) 0 ≡ chosen + x)
+  there = row-place z x row starts {v = cond row (place + 1) (place)} l q r inside inside-n refl (c .placed)
 
-  module _ {v : ℕ} {wrote : List ℕ} (w : v ≡ cond row (getD starts (z + 1) 0 + 1) (getD starts (z + 1) 0)) (k : length wrote ≡ length out) where
-    pub filling-with : Filling near n (t + 1) (chosen + x) (bitOr around (at near t)) row (z + 1) (set starts (z + 1) v) wrote
+  pub fits-row : row ≡ true → (place < length out) × (place < length values)
+  fits-row b = (omega (arith, c .room, there b .0), omega (arith, c .estimates-room, there b .0))
+
+  module _ {v more : ℕ} {wrote valued : List ℕ} (w : v ≡ cond row (place + 1) (place)) (m : more ≡ min maxEstimate (byParts parts (bitAnd chosen (at near t)) t (t - 1) (e * getD parts (cellOf t t) 0)))
+      (i : length wrote ≡ length out) (j : length valued ≡ length values) where
+    pub filling-with : Filling g near parts n (t + 1) (chosen + x) (bitOr around (at near t)) row (z + 1) more (set starts (z + 1) v) wrote valued
     filling-with = record {
-      g = c .g;
-      node = node-with (c .node) x l e row (r (c .g) (c .node));
+      node = node-with (c .node) x l q row r;
+      valued = valued-with (c .node) (c .valued) l x more q m;
       smaller = omega (arith, c .smaller);
       long = omega (arith, c .long, length-set starts (z + 1) v);
-      placed = placed-with z x row starts l e (r (c .g) (c .node)) inside inside-n w (c .placed);
+      placed = placed-with z x row starts l q r inside inside-n w (c .placed);
       room = omega (arith, c .room);
+      estimates-room = omega (arith, c .estimates-room);
     }
 
-    pub filling-without : {mid new : List ℕ} → length mid ≡ length (set starts (z + 1) v) → length new ≡ length wrote
-        → ((g : Graph) → length (memo g) ≤ length wrote → Node g near n (t + 1) (chosen + x) (bitOr around (at near t)) row → Placed g n (t + 1) (chosen + x) (z + 1) (set starts (z + 1) v) → Filled g n (t + 1) (chosen + x) (z + 1) (set starts (z + 1) v) mid wrote new)
-        → Filling near n (t + 1) chosen around joined z mid new
-    unfolding filling-with
-    filling-without i j h = record {
-      g = c .g;
-      node = node-without (c .node) l;
-      smaller = omega (arith, c .smaller);
-      long = omega (arith, c .long, length-set starts (z + 1) v);
-      placed = placed-without z x row starts l e (r (c .g) (c .node)) inside inside-n w (c .placed) (h (c .g) (filling-with .room) (filling-with .node) (filling-with .placed) .places);
-      room = omega (arith, c .room);
-    }
+    module _ {ends mid values-mid : List ℕ} (f : Filled g n (t + 1) (chosen + x) (z + 1) (set starts (z + 1) v) ends wrote mid valued values-mid) where
+      pub filling-without : length ends ≡ length (set starts (z + 1) v) → length mid ≡ length wrote → length values-mid ≡ length valued → Filling g near parts n (t + 1) chosen around joined z e ends mid values-mid
+      filling-without a b d = record {
+        node = node-without (c .node) l;
+        valued = valued-without (c .node) (c .valued) l;
+        smaller = omega (arith, c .smaller);
+        long = omega (arith, c .long, length-set starts (z + 1) v);
+        placed = placed-without z x row starts l q r inside inside-n w (c .placed) (f .places);
+        room = omega (arith, c .room);
+        estimates-room = omega (arith, c .estimates-room);
+      }
 
--- one step of filling, whichever graph's node it is
-pub filled-step : {g : Graph} {near : List ℕ} {n t chosen around : ℕ} {joined : Bool} (z x : ℕ) (row : Bool) (starts out : List ℕ) {v : ℕ} {wrote mid new ends last : List ℕ} → t ≤ n → x ≡ single t → row ≡ isYes (connected? g (chosen + x))
-    → z + 1 < length starts → z + 1 ≤ n → length (memo g) ≤ length out → v ≡ cond row (getD starts (z + 1) 0 + 1) (getD starts (z + 1) 0) → wrote ≡ cond row (set out (getD starts (z + 1) 0) (chosen + x)) out
-    → Node g near n t chosen around joined → Placed g n t chosen z starts
-    → (Node g near n (t + 1) (chosen + x) (bitOr around (at near t)) row → Placed g n (t + 1) (chosen + x) (z + 1) (set starts (z + 1) v) → Filled g n (t + 1) (chosen + x) (z + 1) (set starts (z + 1) v) ends wrote mid)
-    → (Node g near n (t + 1) chosen around joined → Placed g n (t + 1) chosen z ends → Filled g n (t + 1) chosen z ends last mid new)
-    → Filled g n t chosen z starts last out new
-filled-step {g} {near} {n} {t} {chosen} {around} {joined} z x row starts out {v} {wrote} {mid} {new} {ends} {last} l e r b s m w o d p first second =
-    record { places = tallied-step x row starts l e r b w (f .places) (h .places); sets = laid-step z x row starts l e r b s w p (memo g) out kept put (f .sets) (h .sets) }
-  where
-    f : Filled g n (t + 1) (chosen + x) (z + 1) (set starts (z + 1) v) ends wrote mid
-    f = first (node-with d x l e row r) (placed-with z x row starts l e r b s w p)
+      -- one step of filling
+      pub filled-step : {last new values-new : List ℕ} → wrote ≡ cond row (set out (place) (chosen + x)) out → valued ≡ cond row (set values (place) more) values
+          → Filled g n (t + 1) chosen z ends last mid new values-mid values-new → Filled g n t chosen z starts last out new values values-new
+      filled-step a b h = record {
+        places = tallied-step x row starts l q r inside w (f .places) (h .places);
+        sets = laid-step z x row starts l q r inside inside-n w (c .placed) (memo g) out (kept-row row place (chosen + x) (memo g) out there (c .room) a) (put-row row place (chosen + x) (memo g) out there (c .room) a) (f .sets) (h .sets);
+        estimates = laid-step z x row starts l q r inside inside-n w (c .placed) estimates values (kept-row row place more estimates values valued-there room b) (put-row row place more estimates values valued-there room b) (f .estimates) (h .estimates);
+      }
+        where
+          room : length estimates ≤ length values
+          room = omega (arith, length-map (estimate g) (memo g), c .estimates-room)
 
-    h : Filled g n (t + 1) chosen z ends last mid new
-    h = second (node-without d l) (placed-without z x row starts l e r b s w p (f .places))
-
-    there : row ≡ true → (getD starts (z + 1) 0 < length (memo g)) × (getD (memo g) (getD starts (z + 1) 0) 0 ≡ chosen + x)
-    there q = row-place z x row starts l e r b s w p q
-
-    kept : Kept (memo g) out wrote
-    kept = go (true-or-false row)
-      where
-        go : (row ≡ true) ⊎ (row ≡ false) → Kept (memo g) out wrote
-        go (inl q) =
-            let i : wrote ≡ set out (getD starts (z + 1) 0) (chosen + x) = rw q at o in
-            rw i (kept-store (memo g) out (getD starts (z + 1) 0) (chosen + x) (there q .0) (omega (arith, there q .0)) (sym (there q .1)))
-        go (inr q) = let i : wrote ≡ out = rw q at o in rw i (kept-same (memo g) out)
-
-    put : row ≡ true → getD wrote (getD starts (z + 1) 0) 0 ≡ getD (memo g) (getD starts (z + 1) 0) 0
-    put q =
-        let i : wrote ≡ set out (getD starts (z + 1) 0) (chosen + x) = rw q at o in
-        rw i (getD-set-same out (getD starts (z + 1) 0) (chosen + x) 0 (omega (arith, there q .0)) ∙ sym (there q .1))
+          valued-there : row ≡ true → (place < length estimates) × (getD estimates place 0 ≡ more)
+          valued-there y =
+              (omega (arith, length-map (estimate g) (memo g), there y .0), at-map (estimate g) 0 (memo g) place (there y .0) ∙ ap (estimate g) (there y .1) ∙ sym (with-estimate (c .node) (c .valued) l x more q m))
 
 -- ---- the whole
 memo-parts : (g : Graph) (k : ℕ) → k < tableCount g → upTo g k ++ (rowsOf g (k + 1) ++ inRow (rowsOf g) (1 + (k + 1)) (tableCount g - (k + 1))) ≡ memo g
@@ -204,7 +221,7 @@ found-zero : (g : Graph) (t m chosen : ℕ) → found g 0 0 t m chosen ≡ []
 unfolding found
 found-zero g t m chosen = refl
 
-pub placed-root : (g : Graph) (starts : List ℕ) → ((s : ℕ) → s ≤ tableCount g → getD starts s 0 ≡ length (upTo g (s - 1))) → Placed g (tableCount g) 1 0 0 starts
+placed-root : (g : Graph) (starts : List ℕ) → ((s : ℕ) → s ≤ tableCount g → getD starts s 0 ≡ length (upTo g (s - 1))) → Placed g (tableCount g) 1 0 0 starts
 placed-root g starts h = record { sizes = λ s l. go s l }
   where
     no-size : 0 - 1 ≡ 0
@@ -235,7 +252,7 @@ size-at g (suc k) i l = go (decLt i (length (upTo g k))) (λ h. size-at g k i h)
     go (no h) ih = (k, omega arith, omega arith, omega (arith, e))
 
 -- so the list begins with W, and else is as it was
-pub laid-whole : (W old : List ℕ) {new : List ℕ} → length new ≡ length old → length W ≤ length old → Kept W old new → ((i : ℕ) → i < length W → getD new i 0 ≡ getD W i 0) → new ≡ sets old 0 W
+laid-whole : (W old : List ℕ) {new : List ℕ} → length new ≡ length old → length W ≤ length old → Kept W old new → ((i : ℕ) → i < length W → getD new i 0 ≡ getD W i 0) → new ≡ sets old 0 W
 laid-whole W old {new} n m k h = ext-getD 0 new (W ++ drop (length W) old) (n ∙ sym long) each ∙ sym whole
   where
     long : length (W ++ drop (length W) old) ≡ length old
@@ -254,16 +271,23 @@ laid-whole W old {new} n m k h = ext-getD 0 new (W ++ drop (length W) old) (n �
             let e : i ≡ length W + (i - length W) = omega arith in
             c ∙ ap (λ (j : ℕ). getD old j 0) e ∙ sym (getD-drop (length W) old (i - length W) 0) ∙ sym (getD-append-add W (drop (length W) old) (i - length W) 0) ∙ ap (λ (j : ℕ). getD (W ++ drop (length W) old) j 0) (sym e)
 
-pub filled-root : (g : Graph) (starts old : List ℕ) {ends new : List ℕ} → length new ≡ length old → length (memo g) ≤ length old → ((s : ℕ) → s ≤ tableCount g → getD starts s 0 ≡ length (upTo g (s - 1))) → Filled g (tableCount g) 1 0 0 starts ends old new → new ≡ sets old 0 (memo g)
-filled-root g starts old {ends} {new} n m h f = laid-whole (memo g) old n m (f .sets .kept) each
-  where
-    each : (i : ℕ) → i < length (memo g) → getD new i 0 ≡ getD (memo g) i 0
-    each i l =
-        let o = size-at g (tableCount g) i (omega (arith, ap length (upTo-end g (tableCount g) refl))) in
-        let j = o .0 in
-        let e : j + 1 - 1 ≡ j = omega arith in
-        let b : getD starts (j + 1) 0 ≡ length (upTo g j) = h (j + 1) (omega (arith, o .1)) ∙ ap (λ (k : ℕ). length (upTo g k)) e in
-        f .sets .cells (j + 1) i (omega (arith, o .1)) (omega (arith, b, o .2)) (omega (arith, b, o .3, f .places .sizes (j + 1) (omega (arith, o .1)), ap length (found-first g j), length-more g j))
+module _ (g : Graph) (starts : List ℕ) {ends : List ℕ} (h : (s : ℕ) → s ≤ tableCount g → getD starts s 0 ≡ length (upTo g (s - 1))) (f : Tallied g (tableCount g) 1 0 0 starts ends) where
+  -- a column of all rows
+  column-root : (W old : List ℕ) {new : List ℕ} → length W ≡ length (memo g) → length new ≡ length old → length (memo g) ≤ length old → Laid W (tableCount g) starts ends old new → new ≡ sets old 0 W
+  column-root W old {new} w n m laid = laid-whole W old n (omega arith) (laid .kept) each
+    where
+      each : (i : ℕ) → i < length W → getD new i 0 ≡ getD W i 0
+      each i l =
+          let o = size-at g (tableCount g) i (omega (arith, w, ap length (upTo-end g (tableCount g) refl))) in
+          let j = o .0 in
+          let e : j + 1 - 1 ≡ j = omega arith in
+          let b : getD starts (j + 1) 0 ≡ length (upTo g j) = h (j + 1) (omega (arith, o .1)) ∙ ap (λ (k : ℕ). length (upTo g k)) e in
+          laid .cells (j + 1) i (omega (arith, o .1)) (omega (arith, b, o .2)) (omega (arith, b, o .3, f .sizes (j + 1) (omega (arith, o .1)), ap length (found-first g j), length-more g j))
+
+pub filled-root : (g : Graph) (starts out values : List ℕ) {ends out′ values′ : List ℕ} → length out′ ≡ length out → length values′ ≡ length values → length (memo g) ≤ length out → length (memo g) ≤ length values → ((s : ℕ) → s ≤ tableCount g → getD starts s 0 ≡ length (upTo g (s - 1)))
+    → Filled g (tableCount g) 1 0 0 starts ends out out′ values values′ → (out′ ≡ sets out 0 (memo g)) × (values′ ≡ sets values 0 (map (estimate g) (memo g)))
+filled-root g starts out values a b m k h f =
+    (column-root g starts h (f .places) (memo g) out refl a m (f .sets), column-root g starts h (f .places) (map (estimate g) (memo g)) values (length-map (estimate g) (memo g)) b k (f .estimates))
 
 -- one more size's place
 pub starts-more : (g : Graph) (starts : List ℕ) (k : ℕ) {v : ℕ} → k + 1 < length starts → v ≡ length (upTo g k) → ((s : ℕ) → s ≤ k → getD starts s 0 ≡ length (upTo g (s - 1))) → (s : ℕ) → s ≤ k + 1 → getD (set starts (k + 1) v) s 0 ≡ length (upTo g (s - 1))
@@ -281,5 +305,7 @@ starts-none g starts e s l =
     let y : 0 ≡ s - 1 = omega arith in
     ap (λ (j : ℕ). getD starts j 0) z ∙ e ∙ sym (ap length (upTo-none g)) ∙ ap (λ (j : ℕ). length (upTo g j)) y
 
-pub filling-root : (g : Graph) (near starts out : List ℕ) → GoodGraph g → Near g near → tableCount g < length starts → length (memo g) ≤ length out → ((s : ℕ) → s ≤ tableCount g → getD starts s 0 ≡ length (upTo g (s - 1))) → Filling near (tableCount g) 1 0 0 false 0 starts out
-filling-root g near starts out good n l m h = record { g = g; node = root g near good n; smaller = omega arith; long = l; placed = placed-root g starts h; room = m }
+pub filling-root : (g : Graph) (near parts starts out values : List ℕ) → GoodGraph g → Near g near → Parts g (edgeCount g) parts → tableCount g < length starts → length (memo g) ≤ length out → length (memo g) ≤ length values → ((s : ℕ) → s ≤ tableCount g → getD starts s 0 ≡ length (upTo g (s - 1)))
+    → Filling g near parts (tableCount g) 1 0 0 false 0 1 starts out values
+filling-root g near parts starts out values good n p l m k h =
+    record { node = root g near good n; valued = valued-root g parts good p; smaller = omega arith; long = l; placed = placed-root g starts h; room = m; estimates-room = k }

@@ -5,4 +5,7 @@ pub mod Near
 pub mod NearLaws
 pub mod NodeLaws
 pub mod TallyLaws
+pub mod Parts
+pub mod PartLaws
+pub mod Fill
 pub mod FillLaws

@@ -1,8 +1,7 @@
--- The walk for all sizes at once: neighbour sets, a flood along them, and what a node of the walk knows, finds and leaves.
+-- The walk for all sizes at once: neighbour sets, a flood along them, what a node of the walk knows and finds, and the tally.
 use mathlib.Core.Path.{_≡_}
 use mathlib.Core.Bool.{Bool, true, false, cond}
-use mathlib.Core.List.{List, [], _∷_, _++_}
-use mathlib.Core.Logic.{_⊎_}
+use mathlib.Core.List.{List, [], _∷_}
 use Prim.Native.Nat.{ℕ, _+_, _-_, _^_, _≤_, _<_}
 use lib.Dec.{ltb, eqb}
 use lib.ListN.{length, getD}
@@ -11,7 +10,7 @@ use Rattle.rules.specs.Lists.{isYes}
 use Rattle.rules.specs.Sets.{holds, Splits, single}
 use Rattle.rules.specs.Query.{Graph, tableCount, at, IsTable, Linked, Joins}
 use Rattle.rules.specs.Connected.{Connected}
-use Rattle.rules.specs.Rows.{rowsOf, memo}
+use Rattle.rules.specs.Rows.{rowsOf}
 use Rattle.rules.specs.laws.Connected.{Within}
 use Rattle.rules.specs.laws.Decide.{connected?}
 use Rattle.rows.specs.Walk.{walk, onward, Apart}
@@ -89,38 +88,3 @@ pub record Counting (near : List ℕ) (n t chosen around : ℕ) (joined : Bool) 
 pub record Tally (g : Graph) (counts : List ℕ) : Type 0 where
   pub long : tableCount g < length counts
   pub sizes : (k : ℕ) → k < tableCount g → getD counts (k + 1) 0 ≡ length (rowsOf g (k + 1))
-
--- ---- writing the rows
--- xs stand in M from place a on
-pub record Ahead (M : List ℕ) (a : ℕ) (xs : List ℕ) : Type 0 where
-  pub front : List ℕ
-  pub behind : List ℕ
-  pub whole : front ++ (xs ++ behind) ≡ M
-  pub place : length front ≡ a
-
--- a cell is as it was, or holds what W has there
-pub record Kept (W old new : List ℕ) : Type 0 where
-  pub cells : (i : ℕ) → (getD new i 0 ≡ getD old i 0) ⊎ ((i < length W) × (getD new i 0 ≡ getD W i 0))
-
--- where the rows of each size begin that a node finds, in the list of all rows
-pub record Placed (g : Graph) (n t chosen z : ℕ) (starts : List ℕ) : Type 0 where
-  pub sizes : (s : ℕ) → s ≤ n → Ahead (memo g) (getD starts s 0) (found g s z t (n + 1 - t) chosen)
-
--- the cells of each size from its old place to its new one hold what W has there; each other cell is as it was, or does so too
-pub record Laid (W : List ℕ) (n : ℕ) (starts ends old new : List ℕ) : Type 0 where
-  pub kept : Kept W old new
-  pub cells : (s i : ℕ) → s ≤ n → getD starts s 0 ≤ i → i < getD ends s 0 → getD new i 0 ≡ getD W i 0
-
--- what a node leaves that fills: each size's place after the rows found, and those rows
-pub record Filled (g : Graph) (n t chosen z : ℕ) (starts ends old new : List ℕ) : Type 0 where
-  pub places : Tallied g n t chosen z starts ends
-  pub sets : Laid (memo g) n starts ends old new
-
--- a node that fills: some graph's node, and the list has room for all rows
-pub record Filling (near : List ℕ) (n t chosen around : ℕ) (joined : Bool) (z : ℕ) (starts out : List ℕ) : Type 0 where
-  pub g : Graph
-  pub node : Node g near n t chosen around joined
-  pub smaller : z < t
-  pub long : n < length starts
-  pub placed : Placed g n t chosen z starts
-  pub room : length (memo g) ≤ length out

@@ -8,7 +8,6 @@ use native.Mathlib.Decide.{decLt, ℕ-discrete}
 use native.Mathlib.Omega.{arith}
 use lib.Arith.{bin-ind}
 use lib.Bits.{bitAnd, bitOr, and-step, or-step, and-shr, or-shr, and-zero-l, and-le-r}
-use lib.ListN.{set}
 use borrow.Author.Tests.{eqb-true, not-false}
 use Rattle.rules.specs.Lists.{isYes}
 use Rattle.rules.specs.Sets.{holds, Splits, single, Lowest, Disjoint, disjoint}
@@ -84,7 +83,7 @@ part-bits = bin-ind (λ X. (S : ℕ) → ((i : ℕ) → bit i X ≡ 1 → bit i 
             let e : (S - X) / 2 ≡ S / 2 - X / 2 = omega (arith, o .0) in
             (omega (arith, o .0), disjoint-from X (S - X) (rw e (o .1)) (omega (arith, o .0)))
 
-pub part-of : (X S : ℕ) → Within X S → Splits S X (S - X)
+part-of : (X S : ℕ) → Within X S → Splits S X (S - X)
 unfolding Within
 part-of X S w =
     let o = part-bits X S (λ i e. sym (holds-bit S i) ∙ w (suc i) (holds-bit X i ∙ e)) in

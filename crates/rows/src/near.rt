@@ -1,8 +1,6 @@
 // The tables next to each table, as sets; and what they say of some chosen tables.
 ghost use mathlib.Core.Path.{_≡_};
-ghost use mathlib.Core.Bool.{Bool};
-ghost use Prim.Native.Nat.{ℕ, _+_, _≤_, _<_};
-ghost use lib.ListN.{length};
+ghost use Prim.Native.Nat.{_+_, _≤_, _<_};
 ghost use Rattle.rules.specs.Limits.{maxTables};
 ghost use Rattle.rules.specs.Sets.{Disjoint};
 ghost use Rattle.rules.specs.Query.{graphOf, edgeCount};

@@ -13,7 +13,7 @@ use Rattle.memo.proofs.columns.lay_starts.Statement.{statement}
 use Rattle.memo.proofs.columns.lay_starts.Tie as tie
 
 abbrev Inv-loop : tie.InvT-loop
-Inv-loop rows left right divisors firsts₀ cells₀ counts row₀ cell₀ k₀ k-end firsts cells row cell k = 
+Inv-loop rows left right divisors firsts₀ cells₀ counts row₀ cell₀ k₀ k-end firsts cells row cell k =
     (k ≤ length rows) × (k-end ≡ length rows) × (length firsts ≡ length firsts₀) × (length cells ≡ length cells₀)
     × (row ≤ k * 65536) × (cell ≤ k * 1048576)
     × (row ≡ length (upTo (graphOf rows left right divisors) k)) × (cell ≡ length (cellsTo (graphOf rows left right divisors) k))

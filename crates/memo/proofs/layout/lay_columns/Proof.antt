@@ -1,45 +1,40 @@
 use mathlib.Core.Path.{refl}
 use Rattle.rules.specs.Query.{graphOf}
 use Rattle.rules.specs.Rows.{memo}
-use Rattle.memo.specs.LayoutLaws.{front, still-long, has-room, estimates-laid, zeros-laid, lent-same}
+use Rattle.memo.specs.LayoutLaws.{front, has-room, zeros-laid, lent-same}
 use Rattle.memo.proofs.layout.lay_columns.Statement.{statement}
 use Rattle.memo.proofs.layout.lay_columns.Tie as tie
 
-lay-sets-requires : tie.Need-lay-sets-requires
-lay-sets-requires c κs =
-    let s = c .before .before .before .before .before .before .before .before .before .before .before .before in
-    (s .pre .0, ((s .pre .1 .1 .1 .0), (s .pre .1 .1 .0 .rows)))
-
-lay-estimates-requires : tie.Need-lay-estimates-requires
-lay-estimates-requires c κs =
-    let s = c .before .before .before .before .before .before .before .before .before .before .before .before .before .before .before .before .before in
-    (s .pre .0, (has-room (s .pre .1 .1 .1 .1) (s .pre .1 .1 .0 .rows) (still-long (memo (graphOf (s .args .rows .now) (s .args .left .now) (s .args .right .now) (s .args .divisors .now))) (s .args .sets .now) (c .before .before .before .before .lay-sets .ensures)), has-room (s .pre .1 .1 .1 .1) (s .pre .1 .1 .0 .rows) (s .pre .1 .0 .estimates)))
+lay-rows-requires : tie.Need-lay-rows-requires
+lay-rows-requires c κs =
+    let s = c .before .before .before .before .before .before .before .before .before .before .before .before .before in
+    (s .pre .0, ((s .pre .1 .1 .1 .0), ((s .pre .1 .1 .0 .rows), has-room refl (s .pre .1 .1 .0 .rows) (s .pre .1 .0 .estimates))))
 
 lay-zeros-requires : tie.Need-lay-zeros-requires
 lay-zeros-requires c κs =
-    let s = c .before .before .before .before .before .before .before .before .before .before .before .before .before .before .before .before .before .before .before .before .before in
+    let s = c .before .before .before .before .before .before .before .before .before .before .before .before .before .before .before .before .before .before .before in
     has-room (s .pre .1 .1 .1 .1) (s .pre .1 .1 .0 .rows) (s .pre .1 .0 .costs)
 
 lay-zeros-requires-2 : tie.Need-lay-zeros-requires-2
 lay-zeros-requires-2 c κs =
-    let s = c .before .before .before .before .before .before .before .before .before .before .before .before .before .before .before .before .before .before .before .before .before .before .before .before .before in
+    let s = c .before .before .before .before .before .before .before .before .before .before .before .before .before .before .before .before .before .before .before .before .before .before .before in
     has-room (s .pre .1 .1 .1 .1) (s .pre .1 .1 .0 .rows) (s .pre .1 .0 .outers)
 
 lay-zeros-requires-3 : tie.Need-lay-zeros-requires-3
 lay-zeros-requires-3 c κs =
-    let s = c .before .before .before .before .before .before .before .before .before .before .before .before .before .before .before .before .before .before .before .before .before .before .before .before .before .before .before .before .before in
+    let s = c .before .before .before .before .before .before .before .before .before .before .before .before .before .before .before .before .before .before .before .before .before .before .before .before .before .before .before in
     has-room (s .pre .1 .1 .1 .1) (s .pre .1 .1 .0 .rows) (s .pre .1 .0 .methods)
 
 lay-skips-requires : tie.Need-lay-skips-requires
 lay-skips-requires c κs =
-    let s = c .before .before .before .before .before .before .before .before .before .before .before .before .before .before .before .before .before .before .before .before .before .before .before .before .before .before .before .before .before .before .before .before .before .before in
-    (s .pre .0, ((s .pre .1 .1 .1 .0), ((front (memo (graphOf (s .args .rows .now) (s .args .left .now) (s .args .right .now) (s .args .divisors .now))) (s .args .sets .now) (s .pre .1 .1 .0 .rows) refl (c .before .before .before .before .before .before .before .before .before .before .before .before .before .before .before .before .before .before .before .before .before .lay-sets .ensures)), s .pre .1 .1 .0 .cells)))
+    let s = c .before .before .before .before .before .before .before .before .before .before .before .before .before .before .before .before .before .before .before .before .before .before .before .before .before .before .before .before .before .before .before .before in
+    (s .pre .0, ((s .pre .1 .1 .1 .0), (front (memo (graphOf (s .args .rows .now) (s .args .left .now) (s .args .right .now) (s .args .divisors .now))) (s .args .sets .now) (s .pre .1 .1 .0 .rows) refl (c .before .before .before .before .before .before .before .before .before .before .before .before .before .before .before .before .before .before .lay-rows .ensures .0), s .pre .1 .1 .0 .cells)))
 
 same-length : tie.Need-same-length
-same-length c = c .before .before .before .before .before .before .before .before .before .before .before .before .before .before .before .before .before .before .before .before .before .before .before .before .lay-sets .kept .1 .1 .1 .1 .1 .0
+same-length c = c .before .before .before .before .before .before .before .before .before .before .before .before .before .before .before .before .before .before .before .before .before .lay-rows .kept .1 .1 .1 .1 .1 .0
 
 same-length-2 : tie.Need-same-length-2
-same-length-2 c = c .before .before .before .before .before .before .before .before .before .before .before .before .before .before .before .before .before .before .before .lay-estimates .kept .1 .1 .1 .1 .1 .1 .0
+same-length-2 c = c .before .before .before .before .before .before .before .before .before .before .before .before .before .before .before .before .before .before .before .before .before .lay-rows .kept .1 .1 .1 .1 .1 .1 .0
 
 same-length-3 : tie.Need-same-length-3
 same-length-3 c = c .before .before .before .before .before .before .before .before .before .before .before .before .before .before .before .lay-zeros .kept .1 .0
@@ -55,16 +50,15 @@ same-length-6 c = c .before .before .lay-skips .kept .1 .1 .1 .1 .1 .1 .0
 
 returns : tie.Need-returns
 returns c =
-    let s = c .before .before .before .before .before .before .before .before .before .before .before .before .before .before .before .before .before .before .before .before .before .before .before .before .before .before .before .before .before .before .before .before .before .before .before .before .before in
+    let s = c .before .before .before .before .before .before .before .before .before .before .before .before .before .before .before .before .before .before .before .before .before .before .before .before .before .before .before .before .before .before .before .before .before .before .before in
     let g = graphOf (s .args .rows .now) (s .args .left .now) (s .args .right .now) (s .args .divisors .now) in
-    lent-same (c .before .before .before .before .before .before .before .before .before .before .before .before .before .before .before .before .before .before .before .before .before .before .before .before .lay-sets .ensures) (estimates-laid g (s .args .estimates .now) (front (memo g) (s .args .sets .now) (s .pre .1 .1 .0 .rows) (s .pre .1 .1 .1 .1) (c .before .before .before .before .before .before .before .before .before .before .before .before .before .before .before .before .before .before .before .before .before .before .before .before .lay-sets .ensures)) (c .before .before .before .before .before .before .before .before .before .before .before .before .before .before .before .before .before .before .before .lay-estimates .ensures)) (zeros-laid g (s .args .costs .now) (s .pre .1 .1 .1 .1) (c .before .before .before .before .before .before .before .before .before .before .before .before .before .before .before .lay-zeros .ensures)) (zeros-laid g (s .args .outers .now) (s .pre .1 .1 .1 .1) (c .before .before .before .before .before .before .before .before .before .before .before .lay-zeros2 .ensures)) (zeros-laid g (s .args .methods .now) (s .pre .1 .1 .1 .1) (c .before .before .before .before .before .before .before .lay-zeros3 .ensures)) (c .before .before .lay-skips .ensures)
+    lent-same (c .before .before .before .before .before .before .before .before .before .before .before .before .before .before .before .before .before .before .before .before .before .lay-rows .ensures .0) (c .before .before .before .before .before .before .before .before .before .before .before .before .before .before .before .before .before .before .before .before .before .lay-rows .ensures .1) (zeros-laid g (s .args .costs .now) (s .pre .1 .1 .1 .1) (c .before .before .before .before .before .before .before .before .before .before .before .before .before .before .before .lay-zeros .ensures)) (zeros-laid g (s .args .outers .now) (s .pre .1 .1 .1 .1) (c .before .before .before .before .before .before .before .before .before .before .before .lay-zeros2 .ensures)) (zeros-laid g (s .args .methods .now) (s .pre .1 .1 .1 .1) (c .before .before .before .before .before .before .before .lay-zeros3 .ensures)) (c .before .before .lay-skips .ensures)
 
 pub lay-columns-spec : {M : Type 1} → statement M
 lay-columns-spec =
     tie.close
     (tie.spec
-    lay-sets-requires
-    lay-estimates-requires
+    lay-rows-requires
     lay-zeros-requires
     lay-zeros-requires-2
     lay-zeros-requires-3

@@ -12,7 +12,7 @@ use Rattle.memo.proofs.layout.lay_skips.Statement.{statement}
 use Rattle.memo.proofs.layout.lay_skips.Tie as tie
 
 abbrev Inv-loop : tie.InvT-loop
-Inv-loop rows left right divisors counts sets out₀ from₀ at₀ k₀ k-end out from at k = 
+Inv-loop rows left right divisors counts sets out₀ from₀ at₀ k₀ k-end out from at k =
     (k ≤ length rows) × (k-end ≡ length rows) × (length out ≡ length out₀) × (from ≡ length (upTo (graphOf rows left right divisors) k))
     × (at ≡ length (cellsTo (graphOf rows left right divisors) k)) × (out ≡ written out₀ 0 (cellsTo (graphOf rows left right divisors) k))
 

@@ -4,6 +4,7 @@ use native.Mathlib.Omega.{arith}
 use lib.ListN.{length-set}
 use Rattle.rows.specs.WalkLaws.{all-fits, rest-is, rest-some, rest-apart, rest-fits, with-fits}
 use Rattle.rows.specs.NodeLaws.{found-none, found-last}
+use Rattle.rows.specs.PartLaws.{linked-divides, value-fits}
 use Rattle.rows.specs.FillLaws.{filled-none, fits-row, filling-with, filling-without, filled-step}
 use borrow.Fn.Kinds.{In}
 use borrow.Fn.PlainCycle.{Measures, is, falls, and}
@@ -13,19 +14,20 @@ use Rattle.rows.proofs.fill.+fill_from.Lts-fill_from as fill-from-lts
 use Rattle.sets.proofs.single.Reads as single-reads
 use Rattle.rows.proofs.near.stuck.Reads as stuck-reads
 use Rattle.rows.proofs.near.grows.Reads as grows-reads
+use Rattle.rows.proofs.parts.with_part.Reads as with-part-reads
 use Rattle.rows.proofs.fill.put.Reads as put-reads
 use Rattle.rows.proofs.fill.+fill_from.{statement}
 use Rattle.rows.proofs.fill.+fill_from.Tie.{close}
 
-abbrev μ-fill-from : Measures 3 fill-from-kinds.ps ℕ
-μ-fill-from κs a = a .1 .0 + 1 - a .1 .1 .0
+abbrev μ-fill-from : Measures 5 fill-from-kinds.ps ℕ
+μ-fill-from κs a = a .1 .1 .0 + 1 - a .1 .1 .1 .0
 
-abbrev fill-from-at : ℕ → In 3 fill-from-kinds.ps
-fill-from-at t = and 3 fill-from-kinds.ps (is 3 fill-from-kinds.ps μ-fill-from t) fill-from.Pre
+abbrev fill-from-at : ℕ → In 5 fill-from-kinds.ps
+fill-from-at t = and 5 fill-from-kinds.ps (is 5 fill-from-kinds.ps μ-fill-from t) fill-from.Pre
 
-abbrev fill-from-below : ℕ → In 3 fill-from-kinds.ps
+abbrev fill-from-below : ℕ → In 5 fill-from-kinds.ps
 fill-from-below t =
-    and 3 fill-from-kinds.ps (falls 3 fill-from-kinds.ps _<_ μ-fill-from t) fill-from.Pre
+    and 5 fill-from-kinds.ps (falls 5 fill-from-kinds.ps _<_ μ-fill-from t) fill-from.Pre
 
 fill-from-returns : (t : ℕ) → fill-from-lts.Need-returns (
   single-reads.Asked,
@@ -34,14 +36,16 @@ fill-from-returns : (t : ℕ) → fill-from-lts.Need-returns (
   stuck-reads.Learnt,
   grows-reads.Asked,
   grows-reads.Learnt,
+  with-part-reads.Asked,
+  with-part-reads.Learnt,
   put-reads.Asked,
   put-reads.Learnt,
   fill-from-below t,
   fill-from.Post,
 ) (fill-from-at t) fill-from.Post
 fill-from-returns t c =
-    let s = c .before .before .before in
-    λ g m d p. filled-none _ _ (found-last g (s .args .tables) (s .args .size) (s .args .t) (s .args .chosen) (c .if1 .taken))
+    let s = c .before .before .before .before in
+    λ g d. filled-none _ _ _ (found-last g (s .args .tables) (s .args .size) (s .args .t) (s .args .chosen) (c .if1 .taken))
 
 fill-from-single-requires : (t : ℕ) → fill-from-lts.Need-single-requires (
   single-reads.Asked,
@@ -50,14 +54,16 @@ fill-from-single-requires : (t : ℕ) → fill-from-lts.Need-single-requires (
   stuck-reads.Learnt,
   grows-reads.Asked,
   grows-reads.Learnt,
+  with-part-reads.Asked,
+  with-part-reads.Learnt,
   put-reads.Asked,
   put-reads.Learnt,
   fill-from-below t,
   fill-from.Post,
 ) (fill-from-at t) fill-from.Post
 fill-from-single-requires t c κs =
-    let s = c .before .before .before in
-    omega (arith, s .pre .1 .node .some, s .pre .1 .node .few, c .if1 .left)
+    let s = c .before .before .before .before in
+    omega (arith, s .pre .1 .1 .node .some, s .pre .1 .1 .node .few, c .if1 .left)
 
 fill-from-add-single : (t : ℕ) → fill-from-lts.Need-add-single (
   single-reads.Asked,
@@ -66,14 +72,16 @@ fill-from-add-single : (t : ℕ) → fill-from-lts.Need-add-single (
   stuck-reads.Learnt,
   grows-reads.Asked,
   grows-reads.Learnt,
+  with-part-reads.Asked,
+  with-part-reads.Learnt,
   put-reads.Asked,
   put-reads.Learnt,
   fill-from-below t,
   fill-from.Post,
 ) (fill-from-at t) fill-from.Post
 fill-from-add-single t c =
-    let s = c .before .before .before .before in
-    omega (arith, s .pre .1 .node .some, s .pre .1 .node .few, c .before .if1 .left)
+    let s = c .before .before .before .before .before in
+    omega (arith, s .pre .1 .1 .node .some, s .pre .1 .1 .node .few, c .before .if1 .left)
 
 fill-from-single-requires-2 : (t : ℕ) → fill-from-lts.Need-single-requires-2 (
   single-reads.Asked,
@@ -82,14 +90,16 @@ fill-from-single-requires-2 : (t : ℕ) → fill-from-lts.Need-single-requires-2
   stuck-reads.Learnt,
   grows-reads.Asked,
   grows-reads.Learnt,
+  with-part-reads.Asked,
+  with-part-reads.Learnt,
   put-reads.Asked,
   put-reads.Learnt,
   fill-from-below t,
   fill-from.Post,
 ) (fill-from-at t) fill-from.Post
 fill-from-single-requires-2 t c κs =
-    let s = c .before .before .before .before in
-    omega (arith, s .pre .1 .node .some, s .pre .1 .node .few, c .before .if1 .left)
+    let s = c .before .before .before .before .before in
+    omega (arith, s .pre .1 .1 .node .some, s .pre .1 .1 .node .few, c .before .if1 .left)
 
 fill-from-sub-rest : (t : ℕ) → fill-from-lts.Need-sub-rest (
   single-reads.Asked,
@@ -98,14 +108,16 @@ fill-from-sub-rest : (t : ℕ) → fill-from-lts.Need-sub-rest (
   stuck-reads.Learnt,
   grows-reads.Asked,
   grows-reads.Learnt,
+  with-part-reads.Asked,
+  with-part-reads.Learnt,
   put-reads.Asked,
   put-reads.Learnt,
   fill-from-below t,
   fill-from.Post,
 ) (fill-from-at t) fill-from.Post
 fill-from-sub-rest t c =
-    let s = c .before .before .before .before .before in
-    rest-some (s .pre .1 .g) (s .args .tables) (s .args .t) (s .args .chosen) (s .pre .1 .node .some) (s .pre .1 .node .last) (s .pre .1 .node .below) (c .single2 .result) (c .before .single .result) (c .single2 .ensures) (c .before .single .ensures)
+    let s = c .before .before .before .before .before .before in
+    rest-some (s .pre .1 .0) (s .args .tables) (s .args .t) (s .args .chosen) (s .pre .1 .1 .node .some) (s .pre .1 .1 .node .last) (s .pre .1 .1 .node .below) (c .single2 .result) (c .before .single .result) (c .single2 .ensures) (c .before .single .ensures)
 
 fill-from-stuck-requires : (t : ℕ) → fill-from-lts.Need-stuck-requires (
   single-reads.Asked,
@@ -114,15 +126,17 @@ fill-from-stuck-requires : (t : ℕ) → fill-from-lts.Need-stuck-requires (
   stuck-reads.Learnt,
   grows-reads.Asked,
   grows-reads.Learnt,
+  with-part-reads.Asked,
+  with-part-reads.Learnt,
   put-reads.Asked,
   put-reads.Learnt,
   fill-from-below t,
   fill-from.Post,
 ) (fill-from-at t) fill-from.Post
 fill-from-stuck-requires t c κs =
-    let s = c .before .before .before .before .before in
+    let s = c .before .before .before .before .before .before in
     let single′ = c .before .single in
-    (rest-apart (s .pre .1 .g) (s .args .tables) (s .args .t) (s .args .chosen) (s .pre .1 .node .some) (s .pre .1 .node .last) (s .pre .1 .node .below) (c .single2 .result) (single′ .result) (c .single2 .ensures) (single′ .ensures), all-fits (s .args .tables) (s .args .chosen + (c .single2 .result - single′ .result)) (s .pre .1 .node .few) (rest-fits (s .pre .1 .g) (s .args .tables) (s .args .t) (s .args .chosen) (s .pre .1 .node .some) (s .pre .1 .node .last) (s .pre .1 .node .below) (c .single2 .result) (single′ .result) (c .single2 .ensures) (single′ .ensures)))
+    (rest-apart (s .pre .1 .0) (s .args .tables) (s .args .t) (s .args .chosen) (s .pre .1 .1 .node .some) (s .pre .1 .1 .node .last) (s .pre .1 .1 .node .below) (c .single2 .result) (single′ .result) (c .single2 .ensures) (single′ .ensures), all-fits (s .args .tables) (s .args .chosen + (c .single2 .result - single′ .result)) (s .pre .1 .1 .node .few) (rest-fits (s .pre .1 .0) (s .args .tables) (s .args .t) (s .args .chosen) (s .pre .1 .1 .node .some) (s .pre .1 .1 .node .last) (s .pre .1 .1 .node .below) (c .single2 .result) (single′ .result) (c .single2 .ensures) (single′ .ensures)))
 
 fill-from-returns-2 : (t : ℕ) → fill-from-lts.Need-returns-2 (
   single-reads.Asked,
@@ -131,14 +145,16 @@ fill-from-returns-2 : (t : ℕ) → fill-from-lts.Need-returns-2 (
   stuck-reads.Learnt,
   grows-reads.Asked,
   grows-reads.Learnt,
+  with-part-reads.Asked,
+  with-part-reads.Learnt,
   put-reads.Asked,
   put-reads.Learnt,
   fill-from-below t,
   fill-from.Post,
 ) (fill-from-at t) fill-from.Post
 fill-from-returns-2 t c =
-    let s = c .before .before .before .before .before .before .before in
-    λ g m d p. filled-none _ _ (found-none g (s .args .size) (s .args .t) (s .args .tables + 1 - s .args .t) (s .args .chosen) (c .before .stuck .ensures .none (c .if2 .taken) g (s .args .tables) (s .args .t) d (rest-is (s .pre .1 .g) (s .args .tables) (s .args .t) (s .args .chosen) (s .pre .1 .node .some) (s .pre .1 .node .last) (s .pre .1 .node .below) (c .before .before .single2 .result) (c .before .before .before .single .result) (c .before .before .single2 .ensures) (c .before .before .before .single .ensures))))
+    let s = c .before .before .before .before .before .before .before .before in
+    λ g d. filled-none _ _ _ (found-none g (s .args .size) (s .args .t) (s .args .tables + 1 - s .args .t) (s .args .chosen) (c .before .stuck .ensures .none (c .if2 .taken) g (s .args .tables) (s .args .t) (d .node) (rest-is (s .pre .1 .0) (s .args .tables) (s .args .t) (s .args .chosen) (s .pre .1 .1 .node .some) (s .pre .1 .1 .node .last) (s .pre .1 .1 .node .below) (c .before .before .single2 .result) (c .before .before .before .single .result) (c .before .before .single2 .ensures) (c .before .before .before .single .ensures))))
 
 fill-from-grows-requires : (t : ℕ) → fill-from-lts.Need-grows-requires (
   single-reads.Asked,
@@ -147,14 +163,16 @@ fill-from-grows-requires : (t : ℕ) → fill-from-lts.Need-grows-requires (
   stuck-reads.Learnt,
   grows-reads.Asked,
   grows-reads.Learnt,
+  with-part-reads.Asked,
+  with-part-reads.Learnt,
   put-reads.Asked,
   put-reads.Learnt,
   fill-from-below t,
   fill-from.Post,
 ) (fill-from-at t) fill-from.Post
 fill-from-grows-requires t c κs =
-    let s = c .before .before .before .before .before .before .before in
-    omega (arith, c .before .before .before .single .ensures, with-fits (s .args .t) (s .args .chosen) (s .pre .1 .node .some) (s .pre .1 .node .below) (omega (arith, s .pre .1 .node .few, c .before .before .before .before .if1 .left)))
+    let s = c .before .before .before .before .before .before .before .before in
+    omega (arith, c .before .before .before .single .ensures, with-fits (s .args .t) (s .args .chosen) (s .pre .1 .1 .node .some) (s .pre .1 .1 .node .below) (omega (arith, s .pre .1 .1 .node .few, c .before .before .before .before .if1 .left)))
 
 fill-from-add-with : (t : ℕ) → fill-from-lts.Need-add-with (
   single-reads.Asked,
@@ -163,62 +181,88 @@ fill-from-add-with : (t : ℕ) → fill-from-lts.Need-add-with (
   stuck-reads.Learnt,
   grows-reads.Asked,
   grows-reads.Learnt,
+  with-part-reads.Asked,
+  with-part-reads.Learnt,
   put-reads.Asked,
   put-reads.Learnt,
   fill-from-below t,
   fill-from.Post,
 ) (fill-from-at t) fill-from.Post
 fill-from-add-with t c =
-    let s = c .before .before .before .before .before .before .before .before in
-    omega (arith, c .before .before .before .before .single .ensures, with-fits (s .args .t) (s .args .chosen) (s .pre .1 .node .some) (s .pre .1 .node .below) (omega (arith, s .pre .1 .node .few, c .before .before .before .before .before .if1 .left)))
+    let s = c .before .before .before .before .before .before .before .before .before in
+    omega (arith, c .before .before .before .before .single .ensures, with-fits (s .args .t) (s .args .chosen) (s .pre .1 .1 .node .some) (s .pre .1 .1 .node .below) (omega (arith, s .pre .1 .1 .node .few, c .before .before .before .before .before .if1 .left)))
 
-fill-from-sub-wider : (t : ℕ) → fill-from-lts.Need-sub-wider (
+fill-from-sub-beside : (t : ℕ) → fill-from-lts.Need-sub-beside (
   single-reads.Asked,
   single-reads.Learnt,
   stuck-reads.Asked,
   stuck-reads.Learnt,
   grows-reads.Asked,
   grows-reads.Learnt,
+  with-part-reads.Asked,
+  with-part-reads.Learnt,
   put-reads.Asked,
   put-reads.Learnt,
   fill-from-below t,
   fill-from.Post,
 ) (fill-from-at t) fill-from.Post
-fill-from-sub-wider t c =
-    let s = c .before .before .before .before .before .before .before .before in
-    omega (arith, s .pre .1 .node .some, s .pre .1 .node .few, c .before .before .before .before .before .if1 .left)
+fill-from-sub-beside t c =
+    let s = c .before .before .before .before .before .before .before .before .before in
+    omega (arith, s .pre .1 .1 .node .some, s .pre .1 .1 .node .few, c .before .before .before .before .before .if1 .left)
 
-fill-from-mul-wider : (t : ℕ) → fill-from-lts.Need-mul-wider (
+fill-from-mul-beside : (t : ℕ) → fill-from-lts.Need-mul-beside (
   single-reads.Asked,
   single-reads.Learnt,
   stuck-reads.Asked,
   stuck-reads.Learnt,
   grows-reads.Asked,
   grows-reads.Learnt,
+  with-part-reads.Asked,
+  with-part-reads.Learnt,
   put-reads.Asked,
   put-reads.Learnt,
   fill-from-below t,
   fill-from.Post,
 ) (fill-from-at t) fill-from.Post
-fill-from-mul-wider t c =
-    let s = c .before .before .before .before .before .before .before .before in
-    omega (arith, s .pre .1 .node .some, s .pre .1 .node .few, c .before .before .before .before .before .if1 .left)
+fill-from-mul-beside t c =
+    let s = c .before .before .before .before .before .before .before .before .before in
+    omega (arith, s .pre .1 .1 .node .some, s .pre .1 .1 .node .few, c .before .before .before .before .before .if1 .left)
 
-fill-from-element-copy-out-wider : (t : ℕ) → fill-from-lts.Need-element-copy-out-wider (
+fill-from-element-copy-out-beside : (t : ℕ) → fill-from-lts.Need-element-copy-out-beside (
   single-reads.Asked,
   single-reads.Learnt,
   stuck-reads.Asked,
   stuck-reads.Learnt,
   grows-reads.Asked,
   grows-reads.Learnt,
+  with-part-reads.Asked,
+  with-part-reads.Learnt,
   put-reads.Asked,
   put-reads.Learnt,
   fill-from-below t,
   fill-from.Post,
 ) (fill-from-at t) fill-from.Post
-fill-from-element-copy-out-wider t c =
-    let s = c .before .before .before .before .before .before .before .before in
-    omega (arith, s .pre .1 .node .some, s .pre .1 .node .few, c .before .before .before .before .before .if1 .left)
+fill-from-element-copy-out-beside t c =
+    let s = c .before .before .before .before .before .before .before .before .before in
+    omega (arith, s .pre .1 .1 .node .some, s .pre .1 .1 .node .few, c .before .before .before .before .before .if1 .left)
+
+fill-from-with-part-requires : (t : ℕ) → fill-from-lts.Need-with-part-requires (
+  single-reads.Asked,
+  single-reads.Learnt,
+  stuck-reads.Asked,
+  stuck-reads.Learnt,
+  grows-reads.Asked,
+  grows-reads.Learnt,
+  with-part-reads.Asked,
+  with-part-reads.Learnt,
+  put-reads.Asked,
+  put-reads.Learnt,
+  fill-from-below t,
+  fill-from.Post,
+) (fill-from-at t) fill-from.Post
+fill-from-with-part-requires t c κs =
+    let s = c .before .before .before .before .before .before .before .before .before .before in
+    (linked-divides (s .pre .1 .1 .node) (s .pre .1 .1 .valued) (omega (arith, c .before .before .before .before .before .before .if1 .left)), value-fits (s .pre .1 .1 .node) (s .pre .1 .1 .valued) (omega (arith, c .before .before .before .before .before .before .if1 .left)))
 
 fill-from-add-after : (t : ℕ) → fill-from-lts.Need-add-after (
   single-reads.Asked,
@@ -227,14 +271,16 @@ fill-from-add-after : (t : ℕ) → fill-from-lts.Need-add-after (
   stuck-reads.Learnt,
   grows-reads.Asked,
   grows-reads.Learnt,
+  with-part-reads.Asked,
+  with-part-reads.Learnt,
   put-reads.Asked,
   put-reads.Learnt,
   fill-from-below t,
   fill-from.Post,
 ) (fill-from-at t) fill-from.Post
 fill-from-add-after t c =
-    let s = c .before .before .before .before .before .before .before .before .before in
-    omega (arith, s .pre .1 .node .some, s .pre .1 .node .few, c .before .before .before .before .before .before .if1 .left)
+    let s = c .before .before .before .before .before .before .before .before .before .before .before in
+    omega (arith, s .pre .1 .1 .node .some, s .pre .1 .1 .node .few, c .before .before .before .before .before .before .before .if1 .left)
 
 fill-from-add-larger : (t : ℕ) → fill-from-lts.Need-add-larger (
   single-reads.Asked,
@@ -243,14 +289,16 @@ fill-from-add-larger : (t : ℕ) → fill-from-lts.Need-add-larger (
   stuck-reads.Learnt,
   grows-reads.Asked,
   grows-reads.Learnt,
+  with-part-reads.Asked,
+  with-part-reads.Learnt,
   put-reads.Asked,
   put-reads.Learnt,
   fill-from-below t,
   fill-from.Post,
 ) (fill-from-at t) fill-from.Post
 fill-from-add-larger t c =
-    let s = c .before .before .before .before .before .before .before .before .before in
-    omega (arith, s .pre .1 .smaller, s .pre .1 .long, s .pre .1 .node .few, c .before .before .before .before .before .before .if1 .left)
+    let s = c .before .before .before .before .before .before .before .before .before .before .before in
+    omega (arith, s .pre .1 .1 .smaller, s .pre .1 .1 .long, s .pre .1 .1 .node .few, c .before .before .before .before .before .before .before .if1 .left)
 
 fill-from-mul-put : (t : ℕ) → fill-from-lts.Need-mul-put (
   single-reads.Asked,
@@ -259,14 +307,16 @@ fill-from-mul-put : (t : ℕ) → fill-from-lts.Need-mul-put (
   stuck-reads.Learnt,
   grows-reads.Asked,
   grows-reads.Learnt,
+  with-part-reads.Asked,
+  with-part-reads.Learnt,
   put-reads.Asked,
   put-reads.Learnt,
   fill-from-below t,
   fill-from.Post,
 ) (fill-from-at t) fill-from.Post
 fill-from-mul-put t c =
-    let s = c .before .before .before .before .before .before .before .before .before .before in
-    omega (arith, s .pre .1 .smaller, s .pre .1 .long, s .pre .1 .node .few, c .before .before .before .before .before .before .before .if1 .left)
+    let s = c .before .before .before .before .before .before .before .before .before .before .before .before .before in
+    omega (arith, s .pre .1 .1 .smaller, s .pre .1 .1 .long, s .pre .1 .1 .node .few, c .before .before .before .before .before .before .before .before .before .if1 .left)
 
 fill-from-slice-read-put : (t : ℕ) → fill-from-lts.Need-slice-read-put (
   single-reads.Asked,
@@ -275,14 +325,16 @@ fill-from-slice-read-put : (t : ℕ) → fill-from-lts.Need-slice-read-put (
   stuck-reads.Learnt,
   grows-reads.Asked,
   grows-reads.Learnt,
+  with-part-reads.Asked,
+  with-part-reads.Learnt,
   put-reads.Asked,
   put-reads.Learnt,
   fill-from-below t,
   fill-from.Post,
 ) (fill-from-at t) fill-from.Post
 fill-from-slice-read-put t c =
-    let s = c .before .before .before .before .before .before .before .before .before .before .before in
-    omega (arith, s .pre .1 .smaller, s .pre .1 .long, s .pre .1 .node .few, c .before .before .before .before .before .before .before .before .if1 .left)
+    let s = c .before .before .before .before .before .before .before .before .before .before .before .before .before .before in
+    omega (arith, s .pre .1 .1 .smaller, s .pre .1 .1 .long, s .pre .1 .1 .node .few, c .before .before .before .before .before .before .before .before .before .before .if1 .left)
 
 fill-from-put-requires : (t : ℕ) → fill-from-lts.Need-put-requires (
   single-reads.Asked,
@@ -291,15 +343,17 @@ fill-from-put-requires : (t : ℕ) → fill-from-lts.Need-put-requires (
   stuck-reads.Learnt,
   grows-reads.Asked,
   grows-reads.Learnt,
+  with-part-reads.Asked,
+  with-part-reads.Learnt,
   put-reads.Asked,
   put-reads.Learnt,
   fill-from-below t,
   fill-from.Post,
 ) (fill-from-at t) fill-from.Post
 fill-from-put-requires t c κs =
-    let s = c .before .before .before .before .before .before .before .before .before .before .before in
-    let single′ = c .before .before .before .before .before .before .before .single in
-    λ q. fits-row (s .pre .1) (single′ .result) (c .before .before .before .grows .result) (omega (arith, c .before .before .before .before .before .before .before .before .if1 .left)) (single′ .ensures) (λ g d. c .before .before .before .grows .ensures .told g (s .args .tables) (s .args .t) d (omega (arith, c .before .before .before .before .before .before .before .before .if1 .left)) (single′ .ensures)) q
+    let s = c .before .before .before .before .before .before .before .before .before .before .before .before .before .before in
+    let single′ = c .before .before .before .before .before .before .before .before .before .single in
+    fits-row (s .pre .1 .1) (single′ .result) (c .before .before .before .before .before .grows .result) (omega (arith, c .before .before .before .before .before .before .before .before .before .before .if1 .left)) (single′ .ensures) (c .before .before .before .before .before .grows .ensures .told (s .pre .1 .0) (s .args .tables) (s .args .t) (s .pre .1 .1 .node) (omega (arith, c .before .before .before .before .before .before .before .before .before .before .if1 .left)) (single′ .ensures))
 
 fill-from-mul-starts : (t : ℕ) → fill-from-lts.Need-mul-starts (
   single-reads.Asked,
@@ -308,14 +362,16 @@ fill-from-mul-starts : (t : ℕ) → fill-from-lts.Need-mul-starts (
   stuck-reads.Learnt,
   grows-reads.Asked,
   grows-reads.Learnt,
+  with-part-reads.Asked,
+  with-part-reads.Learnt,
   put-reads.Asked,
   put-reads.Learnt,
   fill-from-below t,
   fill-from.Post,
 ) (fill-from-at t) fill-from.Post
 fill-from-mul-starts t c =
-    let s = c .before .before .before .before .before .before .before .before .before .before .before .before .before .before in
-    omega (arith, s .pre .1 .smaller, s .pre .1 .long, s .pre .1 .node .few, c .before .before .before .before .before .before .before .before .before .before .before .if1 .left)
+    let s = c .before .before .before .before .before .before .before .before .before .before .before .before .before .before .before .before .before .before .before in
+    omega (arith, s .pre .1 .1 .smaller, s .pre .1 .1 .long, s .pre .1 .1 .node .few, c .before .before .before .before .before .before .before .before .before .before .before .before .before .before .before .if1 .left)
 
 fill-from-slice-write-starts : (t : ℕ) → fill-from-lts.Need-slice-write-starts (
   single-reads.Asked,
@@ -324,14 +380,16 @@ fill-from-slice-write-starts : (t : ℕ) → fill-from-lts.Need-slice-write-star
   stuck-reads.Learnt,
   grows-reads.Asked,
   grows-reads.Learnt,
+  with-part-reads.Asked,
+  with-part-reads.Learnt,
   put-reads.Asked,
   put-reads.Learnt,
   fill-from-below t,
   fill-from.Post,
 ) (fill-from-at t) fill-from.Post
 fill-from-slice-write-starts t c =
-    let s = c .before .before .before .before .before .before .before .before .before .before .before .before .before .before in
-    omega (arith, s .pre .1 .smaller, s .pre .1 .long, s .pre .1 .node .few, c .before .before .before .before .before .before .before .before .before .before .before .if1 .left)
+    let s = c .before .before .before .before .before .before .before .before .before .before .before .before .before .before .before .before .before .before .before in
+    omega (arith, s .pre .1 .1 .smaller, s .pre .1 .1 .long, s .pre .1 .1 .node .few, c .before .before .before .before .before .before .before .before .before .before .before .before .before .before .before .if1 .left)
 
 fill-from-fill-from-requires : (t : ℕ) → fill-from-lts.Need-fill-from-requires (
   single-reads.Asked,
@@ -340,16 +398,19 @@ fill-from-fill-from-requires : (t : ℕ) → fill-from-lts.Need-fill-from-requir
   stuck-reads.Learnt,
   grows-reads.Asked,
   grows-reads.Learnt,
+  with-part-reads.Asked,
+  with-part-reads.Learnt,
   put-reads.Asked,
   put-reads.Learnt,
   fill-from-below t,
   fill-from.Post,
 ) (fill-from-at t) fill-from.Post
 fill-from-fill-from-requires t c κs =
-    let s = c .before .before .before .before .before .before .before .before .before .before .before .before .before .before .before .before in
-    let if1′ = c .before .before .before .before .before .before .before .before .before .before .before .before .before .if1 in
-    let single′ = c .before .before .before .before .before .before .before .before .before .before .before .before .single in
-    (omega (arith, if1′ .left), filling-with (s .pre .1) (single′ .result) (c .before .before .before .before .before .before .before .before .grows .result) (omega (arith, if1′ .left)) (single′ .ensures) (λ g d. c .before .before .before .before .before .before .before .before .grows .ensures .told g (s .args .tables) (s .args .t) d (omega (arith, if1′ .left)) (single′ .ensures)) (c .before .before .before .before .put .ensures .0) (c .before .before .before .before .put .kept .1 .1 .0))
+    let s = c .before .before .before .before .before .before .before .before .before .before .before .before .before .before .before .before .before .before .before .before .before .before in
+    let if1′ = c .before .before .before .before .before .before .before .before .before .before .before .before .before .before .before .before .before .before .if1 in
+    let single′ = c .before .before .before .before .before .before .before .before .before .before .before .before .before .before .before .before .before .single in
+    let put′ = c .before .before .before .before .before .before .before .put in
+    (omega (arith, if1′ .left), ((s .pre .1 .0), filling-with (s .pre .1 .1) (single′ .result) (c .before .before .before .before .before .before .before .before .before .before .before .before .before .grows .result) (omega (arith, if1′ .left)) (single′ .ensures) (c .before .before .before .before .before .before .before .before .before .before .before .before .before .grows .ensures .told (s .pre .1 .0) (s .args .tables) (s .args .t) (s .pre .1 .1 .node) (omega (arith, if1′ .left)) (single′ .ensures)) (put′ .ensures .0) (c .before .before .before .before .before .before .before .before .before .before .before .with-part .ensures) (put′ .kept .1 .1 .1 .0) (put′ .kept .1 .1 .1 .1 .0)))
 
 fill-from-fill-from-requires-2 : (t : ℕ) → fill-from-lts.Need-fill-from-requires-2 (
   single-reads.Asked,
@@ -358,17 +419,21 @@ fill-from-fill-from-requires-2 : (t : ℕ) → fill-from-lts.Need-fill-from-requ
   stuck-reads.Learnt,
   grows-reads.Asked,
   grows-reads.Learnt,
+  with-part-reads.Asked,
+  with-part-reads.Learnt,
   put-reads.Asked,
   put-reads.Learnt,
   fill-from-below t,
   fill-from.Post,
 ) (fill-from-at t) fill-from.Post
 fill-from-fill-from-requires-2 t c κs =
-    let s = c .before .before .before .before .before .before .before .before .before .before .before .before .before .before .before .before .before .before .before .before .before .before .before in
-    let if1′ = c .before .before .before .before .before .before .before .before .before .before .before .before .before .before .before .before .before .before .before .before .if1 in
-    let single′ = c .before .before .before .before .before .before .before .before .before .before .before .before .before .before .before .before .before .before .before .single in
-    let fill-from′ = c .before .before .before .before .before .before .fill-from in
-    (omega (arith, if1′ .left), filling-without (s .pre .1) (single′ .result) (c .before .before .before .before .before .before .before .before .before .before .before .before .before .before .before .grows .result) (omega (arith, if1′ .left)) (single′ .ensures) (λ g d. c .before .before .before .before .before .before .before .before .before .before .before .before .before .before .before .grows .ensures .told g (s .args .tables) (s .args .t) d (omega (arith, if1′ .left)) (single′ .ensures)) (c .before .before .before .before .before .before .before .before .before .before .before .put .ensures .0) (c .before .before .before .before .before .before .before .before .before .before .before .put .kept .1 .1 .0) (fill-from′ .kept .1 .1 .1 .1 .1 .1 .1 .0) (fill-from′ .kept .1 .1 .1 .1 .1 .1 .1 .1 .0) (fill-from′ .ensures))
+    let s = c .before .before .before .before .before .before .before .before .before .before .before .before .before .before .before .before .before .before .before .before .before .before .before .before .before .before .before .before .before .before .before .before in
+    let if1′ = c .before .before .before .before .before .before .before .before .before .before .before .before .before .before .before .before .before .before .before .before .before .before .before .before .before .before .before .before .if1 in
+    let single′ = c .before .before .before .before .before .before .before .before .before .before .before .before .before .before .before .before .before .before .before .before .before .before .before .before .before .before .before .single in
+    let grows′ = c .before .before .before .before .before .before .before .before .before .before .before .before .before .before .before .before .before .before .before .before .before .before .before .grows in
+    let put′ = c .before .before .before .before .before .before .before .before .before .before .before .before .before .before .before .before .before .put in
+    let fill-from′ = c .before .before .before .before .before .before .before .before .before .fill-from in
+    (omega (arith, if1′ .left), ((s .pre .1 .0), filling-without (s .pre .1 .1) (single′ .result) (grows′ .result) (omega (arith, if1′ .left)) (single′ .ensures) (grows′ .ensures .told (s .pre .1 .0) (s .args .tables) (s .args .t) (s .pre .1 .1 .node) (omega (arith, if1′ .left)) (single′ .ensures)) (put′ .ensures .0) (c .before .before .before .before .before .before .before .before .before .before .before .before .before .before .before .before .before .before .before .before .before .with-part .ensures) (put′ .kept .1 .1 .1 .0) (put′ .kept .1 .1 .1 .1 .0) (fill-from′ .ensures (s .pre .1 .0) (filling-with (s .pre .1 .1) (single′ .result) (grows′ .result) (omega (arith, if1′ .left)) (single′ .ensures) (grows′ .ensures .told (s .pre .1 .0) (s .args .tables) (s .args .t) (s .pre .1 .1 .node) (omega (arith, if1′ .left)) (single′ .ensures)) (put′ .ensures .0) (c .before .before .before .before .before .before .before .before .before .before .before .before .before .before .before .before .before .before .before .before .before .with-part .ensures) (put′ .kept .1 .1 .1 .0) (put′ .kept .1 .1 .1 .1 .0))) (fill-from′ .kept .1 .1 .1 .1 .1 .1 .1 .1 .1 .0) (fill-from′ .kept .1 .1 .1 .1 .1 .1 .1 .1 .1 .1 .0) (fill-from′ .kept .1 .1 .1 .1 .1 .1 .1 .1 .1 .1 .1 .0)))
 
 fill-from-same-length : (t : ℕ) → fill-from-lts.Need-same-length (
   single-reads.Asked,
@@ -377,14 +442,16 @@ fill-from-same-length : (t : ℕ) → fill-from-lts.Need-same-length (
   stuck-reads.Learnt,
   grows-reads.Asked,
   grows-reads.Learnt,
+  with-part-reads.Asked,
+  with-part-reads.Learnt,
   put-reads.Asked,
   put-reads.Learnt,
   fill-from-below t,
   fill-from.Post,
 ) (fill-from-at t) fill-from.Post
 fill-from-same-length t c =
-    let s = c .before .before .before .before .before .before .before .before .before .before .before .before .before .before .before .before .before .before .before .before .before .before .before .before .before .before .before .before in
-    c .before .before .before .before .fill-from2 .kept .1 .1 .1 .1 .1 .1 .1 .0 ∙ c .before .before .before .before .before .before .before .before .before .before .before .fill-from .kept .1 .1 .1 .1 .1 .1 .1 .0 ∙ length-set (s .args .starts .now) (s .args .size + 1) (c .before .before .before .before .before .before .before .before .before .before .before .before .before .before .before .before .put .result)
+    let s = c .before .before .before .before .before .before .before .before .before .before .before .before .before .before .before .before .before .before .before .before .before .before .before .before .before .before .before .before .before .before .before .before .before .before .before .before .before .before .before in
+    c .before .before .before .before .before .before .fill-from2 .kept .1 .1 .1 .1 .1 .1 .1 .1 .1 .0 ∙ c .before .before .before .before .before .before .before .before .before .before .before .before .before .before .before .before .fill-from .kept .1 .1 .1 .1 .1 .1 .1 .1 .1 .0 ∙ length-set (s .args .starts .now) (s .args .size + 1) (c .before .before .before .before .before .before .before .before .before .before .before .before .before .before .before .before .before .before .before .before .before .before .before .before .put .result)
 
 fill-from-same-length-2 : (t : ℕ) → fill-from-lts.Need-same-length-2 (
   single-reads.Asked,
@@ -393,12 +460,30 @@ fill-from-same-length-2 : (t : ℕ) → fill-from-lts.Need-same-length-2 (
   stuck-reads.Learnt,
   grows-reads.Asked,
   grows-reads.Learnt,
+  with-part-reads.Asked,
+  with-part-reads.Learnt,
   put-reads.Asked,
   put-reads.Learnt,
   fill-from-below t,
   fill-from.Post,
 ) (fill-from-at t) fill-from.Post
-fill-from-same-length-2 t c = c .before .before .before .before .fill-from2 .kept .1 .1 .1 .1 .1 .1 .1 .1 .0 ∙ c .before .before .before .before .before .before .before .before .before .before .before .fill-from .kept .1 .1 .1 .1 .1 .1 .1 .1 .0 ∙ c .before .before .before .before .before .before .before .before .before .before .before .before .before .before .before .before .put .kept .1 .1 .0
+fill-from-same-length-2 t c = c .before .before .before .before .before .before .fill-from2 .kept .1 .1 .1 .1 .1 .1 .1 .1 .1 .1 .0 ∙ c .before .before .before .before .before .before .before .before .before .before .before .before .before .before .before .before .fill-from .kept .1 .1 .1 .1 .1 .1 .1 .1 .1 .1 .0 ∙ c .before .before .before .before .before .before .before .before .before .before .before .before .before .before .before .before .before .before .before .before .before .before .before .before .put .kept .1 .1 .1 .0
+
+fill-from-same-length-3 : (t : ℕ) → fill-from-lts.Need-same-length-3 (
+  single-reads.Asked,
+  single-reads.Learnt,
+  stuck-reads.Asked,
+  stuck-reads.Learnt,
+  grows-reads.Asked,
+  grows-reads.Learnt,
+  with-part-reads.Asked,
+  with-part-reads.Learnt,
+  put-reads.Asked,
+  put-reads.Learnt,
+  fill-from-below t,
+  fill-from.Post,
+) (fill-from-at t) fill-from.Post
+fill-from-same-length-3 t c = c .before .before .before .before .before .before .fill-from2 .kept .1 .1 .1 .1 .1 .1 .1 .1 .1 .1 .1 .0 ∙ c .before .before .before .before .before .before .before .before .before .before .before .before .before .before .before .before .fill-from .kept .1 .1 .1 .1 .1 .1 .1 .1 .1 .1 .1 .0 ∙ c .before .before .before .before .before .before .before .before .before .before .before .before .before .before .before .before .before .before .before .before .before .before .before .before .put .kept .1 .1 .1 .1 .0
 
 fill-from-returns-3 : (t : ℕ) → fill-from-lts.Need-returns-3 (
   single-reads.Asked,
@@ -407,17 +492,24 @@ fill-from-returns-3 : (t : ℕ) → fill-from-lts.Need-returns-3 (
   stuck-reads.Learnt,
   grows-reads.Asked,
   grows-reads.Learnt,
+  with-part-reads.Asked,
+  with-part-reads.Learnt,
   put-reads.Asked,
   put-reads.Learnt,
   fill-from-below t,
   fill-from.Post,
 ) (fill-from-at t) fill-from.Post
 fill-from-returns-3 t c =
-    let s = c .before .before .before .before .before .before .before .before .before .before .before .before .before .before .before .before .before .before .before .before .before .before .before .before .before .before .before .before in
-    let single′ = c .before .before .before .before .before .before .before .before .before .before .before .before .before .before .before .before .before .before .before .before .before .before .before .before .single in
-    let if1′ = c .before .before .before .before .before .before .before .before .before .before .before .before .before .before .before .before .before .before .before .before .before .before .before .before .before .if1 in
-    let put′ = c .before .before .before .before .before .before .before .before .before .before .before .before .before .before .before .before .put in
-    λ g m d p. filled-step (s .args .size) (single′ .result) (c .before .before .before .before .before .before .before .before .before .before .before .before .before .before .before .before .before .before .before .before .grows .result) (s .args .starts .now) (s .args .out .now) (omega (arith, if1′ .left)) (single′ .ensures) (c .before .before .before .before .before .before .before .before .before .before .before .before .before .before .before .before .before .before .before .before .grows .ensures .told g (s .args .tables) (s .args .t) d (omega (arith, if1′ .left)) (single′ .ensures)) (omega (arith, s .pre .1 .smaller, s .pre .1 .long, s .pre .1 .node .few, if1′ .left)) (omega (arith, s .pre .1 .smaller, if1′ .left)) m (put′ .ensures .0) (put′ .ensures .1) d p (c .before .before .before .before .before .before .before .before .before .before .before .fill-from .ensures g (omega (arith, m, put′ .kept .1 .1 .0))) (c .before .before .before .before .fill-from2 .ensures g (omega (arith, m, put′ .kept .1 .1 .0, c .before .before .before .before .before .before .before .before .before .before .before .fill-from .kept .1 .1 .1 .1 .1 .1 .1 .1 .0)))
+    let s = c .before .before .before .before .before .before .before .before .before .before .before .before .before .before .before .before .before .before .before .before .before .before .before .before .before .before .before .before .before .before .before .before .before .before .before .before .before .before .before in
+    let fill-from′ = c .before .before .before .before .before .before .before .before .before .before .before .before .before .before .before .before .fill-from in
+    let single′ = c .before .before .before .before .before .before .before .before .before .before .before .before .before .before .before .before .before .before .before .before .before .before .before .before .before .before .before .before .before .before .before .before .before .before .single in
+    let grows′ = c .before .before .before .before .before .before .before .before .before .before .before .before .before .before .before .before .before .before .before .before .before .before .before .before .before .before .before .before .before .before .grows in
+    let if1′ = c .before .before .before .before .before .before .before .before .before .before .before .before .before .before .before .before .before .before .before .before .before .before .before .before .before .before .before .before .before .before .before .before .before .before .before .if1 in
+    let put′ = c .before .before .before .before .before .before .before .before .before .before .before .before .before .before .before .before .before .before .before .before .before .before .before .before .put in
+    let with-part′ = c .before .before .before .before .before .before .before .before .before .before .before .before .before .before .before .before .before .before .before .before .before .before .before .before .before .before .before .before .with-part in
+    λ g d.
+    let first = fill-from′ .ensures g (filling-with (d) (single′ .result) (grows′ .result) (omega (arith, if1′ .left)) (single′ .ensures) (grows′ .ensures .told g (s .args .tables) (s .args .t) (d .node) (omega (arith, if1′ .left)) (single′ .ensures)) (put′ .ensures .0) (with-part′ .ensures) (put′ .kept .1 .1 .1 .0) (put′ .kept .1 .1 .1 .1 .0)) in
+    filled-step (d) (single′ .result) (grows′ .result) (omega (arith, if1′ .left)) (single′ .ensures) (grows′ .ensures .told g (s .args .tables) (s .args .t) (d .node) (omega (arith, if1′ .left)) (single′ .ensures)) (put′ .ensures .0) (with-part′ .ensures) (put′ .kept .1 .1 .1 .0) (put′ .kept .1 .1 .1 .1 .0) first (put′ .ensures .1 .0) (put′ .ensures .1 .1) (c .before .before .before .before .before .before .fill-from2 .ensures g (filling-without (d) (single′ .result) (grows′ .result) (omega (arith, if1′ .left)) (single′ .ensures) (grows′ .ensures .told g (s .args .tables) (s .args .t) (d .node) (omega (arith, if1′ .left)) (single′ .ensures)) (put′ .ensures .0) (with-part′ .ensures) (put′ .kept .1 .1 .1 .0) (put′ .kept .1 .1 .1 .1 .0) first (fill-from′ .kept .1 .1 .1 .1 .1 .1 .1 .1 .1 .0) (fill-from′ .kept .1 .1 .1 .1 .1 .1 .1 .1 .1 .1 .0) (fill-from′ .kept .1 .1 .1 .1 .1 .1 .1 .1 .1 .1 .1 .0)))
 
 pub +fill-from-spec : {M : Type 1} → statement M
 +fill-from-spec = close μ-fill-from λ t. fill-from-lts.spec (
@@ -427,6 +519,8 @@ pub +fill-from-spec : {M : Type 1} → statement M
   stuck-reads.Learnt,
   grows-reads.Asked,
   grows-reads.Learnt,
+  with-part-reads.Asked,
+  with-part-reads.Learnt,
   put-reads.Asked,
   put-reads.Learnt,
   fill-from-below t,
@@ -443,9 +537,10 @@ pub +fill-from-spec : {M : Type 1} → statement M
     (fill-from-returns-2 t)
     (fill-from-grows-requires t)
     (fill-from-add-with t)
-    (fill-from-sub-wider t)
-    (fill-from-mul-wider t)
-    (fill-from-element-copy-out-wider t)
+    (fill-from-sub-beside t)
+    (fill-from-mul-beside t)
+    (fill-from-element-copy-out-beside t)
+    (fill-from-with-part-requires t)
     (fill-from-add-after t)
     (fill-from-add-larger t)
     (fill-from-mul-put t)
@@ -457,4 +552,5 @@ pub +fill-from-spec : {M : Type 1} → statement M
     (fill-from-fill-from-requires-2 t)
     (fill-from-same-length t)
     (fill-from-same-length-2 t)
+    (fill-from-same-length-3 t)
     (fill-from-returns-3 t)

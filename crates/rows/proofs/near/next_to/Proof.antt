@@ -30,7 +30,7 @@ shared-slice-read-far-table-2 : tie.Need-shared-slice-read-far-table-2 Inv-loop 
 shared-slice-read-far-table-2 c = omega arith
 
 far-table-requires : tie.Need-far-table-requires Inv-loop μ-loop
-far-table-requires c κs = 
+far-table-requires c κs =
     let l = c .before .before .before in
     let s = l .before .before .before .before .before in
     edge-fits (graphOf (s .args .rows .now) (s .args .left .now) (s .args .right .now) (s .args .divisors .now)) (l .loop .i) (s .pre) (omega arith)
@@ -42,7 +42,7 @@ loop-less : tie.Need-loop-less Inv-loop μ-loop
 loop-less c = omega arith
 
 loop-again : tie.Need-loop-again Inv-loop μ-loop
-loop-again c = 
+loop-again c =
     let l = c .before .before .before .before in
     let s = l .before .before .before .before .before in
     let g = graphOf (s .args .rows .now) (s .args .left .now) (s .args .right .now) (s .args .divisors .now) in
