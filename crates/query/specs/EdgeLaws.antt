@@ -1,12 +1,15 @@
 -- Laws of the search for an edge between two sets.
 use mathlib.Core.Path.{_≡_, refl, sym, _∙_}
-use mathlib.Core.Bool.{Bool, true, false, _&&_, _||_}
+use mathlib.Core.Bool.{Bool, true, false, _&&_, _||_, and-false}
 use mathlib.Core.List.{List}
-use Prim.Native.Nat.{ℕ, _+_, _<_}
+use Prim.Native.Nat.{ℕ, zero, suc, _+_, _/_, _^_, _<_, _≤_, max}
 use native.Mathlib.Numerals.{add-one}
+use native.Mathlib.Omega.{arith}
+use borrow.Author.Tests.{eqb-false, ne-eqb}
+use lib.Bits.{bitOr, or-step, or-shr}
 use lib.ListN.{length, getD}
 use Rattle.rules.specs.Lists.{isYes}
-use Rattle.rules.specs.Sets.{has}
+use Rattle.rules.specs.Sets.{has, holds}
 use Rattle.rules.specs.Query.{Graph}
 use Rattle.rules.specs.laws.Bools.{any, any-of, decide-is}
 use Rattle.rules.specs.laws.Decide.{crossesIn, betweenIn, between?, between-true, between-of}
@@ -35,14 +38,38 @@ module _ (f : ℕ → Bool) where
   any-more i h e = rw (add-one i, h) e
 
 -- ---- an edge between two sets
-pub crosses-is : (left right : List ℕ) (x y i : ℕ)
-    → crossesIn left right x y i ≡ ((has x (getD left i 0) && has y (getD right i 0)) || (has x (getD right i 0) && has y (getD left i 0)))
+-- the code's test of an edge that is so and so
+pub crosses-is : (left right : List ℕ) (x y i : ℕ) {r b : Bool}
+    → r ≡ ((has x (getD left i 0) && has y (getD right i 0)) || (has x (getD right i 0) && has y (getD left i 0))) → r ≡ b → crossesIn left right x y i ≡ b
 unfolding crossesIn
-crosses-is left right x y i = refl
+crosses-is left right x y i e f = sym e ∙ f
 
 pub between-is : (g : Graph) (x y : ℕ) → isYes (between? g x y) ≡ betweenIn (g .left) (g .right) x y
 unfolding between?
 between-is g x y = decide-is (betweenIn (g .left) (g .right) x y) (between-true g x y) (between-of g x y)
+
+-- a table stands in the bits of two sets where it stands in one of them
+pub holds-either : (x y t : ℕ) → holds (bitOr x y) t ≡ max (holds x t) (holds y t)
+unfolding holds
+holds-either x y zero = refl
+holds-either x y (suc i) = rw (or-shr x y i) (omega (arith, or-step (x / 2 ^ i) (y / 2 ^ i)))
+
+holds-le : (S t : ℕ) → holds S t ≤ 1
+unfolding holds
+holds-le S zero = omega arith
+holds-le S (suc i) = omega arith
+
+-- a table that stands in neither of two sets
+pub neither : (x y t : ℕ) → has (bitOr x y) t ≡ false → (has x t ≡ false) × (has y t ≡ false)
+neither x y t e =
+    let n = eqb-false (holds (bitOr x y) t) 1 e in
+    let m = holds-either x y t in
+    (ne-eqb (holds x t) 1 (λ h. n (omega (arith, holds-le y t))), ne-eqb (holds y t) 1 (λ h. n (omega (arith, holds-le x t))))
+
+-- an edge whose left table stands in neither does not cross
+pub crosses-not : (left right : List ℕ) (x y i : ℕ) {r : Bool} → r ≡ has (bitOr x y) (getD left i 0) → r ≡ false → crossesIn left right x y i ≡ false
+unfolding crossesIn
+crosses-not left right x y i e f = let n = neither x y (getD left i 0) (sym e ∙ f) in rw (n .0, n .1) (and-false (has x (getD right i 0)))
 
 -- an edge that crosses is found
 pub between-found : (g : Graph) (x y i : ℕ) → i < length (g .left) → crossesIn (g .left) (g .right) x y i ≡ true → isYes (between? g x y) ≡ true

@@ -53,7 +53,8 @@ fn crosses(x: u64, y: u64, a: u64, b: u64) -> bool
     both_stand(x, b, y, a)
 }
 
-// Whether an edge runs between `x` and `y`: from a table of the one to a table of the other.
+// Whether an edge runs between `x` and `y`: from a table of the one to a table of the other. Most edges have their left table in neither,
+// and one test is enough for them.
 pub fn edge_between(
     rows: &[u64],
     left: &[u64],
@@ -65,10 +66,13 @@ pub fn edge_between(
     requires { ⌜ GoodGraph (graphOf (now rows) (now left) (now right) (now divisors)) ⌝ }
     ensures { λ r. ⌜ r ≡ isYes (between? (graphOf (now (rows .entry)) (now (left .entry)) (now (right .entry)) (now (divisors .entry))) x y) ⌝ }
 {
+    let either = x | y;
     let mut i = 0;
     while i < left.len() {
-        if crosses(x, y, left[i], right[i]) {
-            return true;
+        if has_table(either, left[i]) {
+            if crosses(x, y, left[i], right[i]) {
+                return true;
+            }
         }
         i += 1;
     }

@@ -6,17 +6,22 @@ use Prim.Native.Nat.{ℕ, _+_, _-_, _*_, _/_, _%_, _≤_, _<_}
 use native.Mathlib.Nat.{le-refl}
 use native.Mathlib.Decide.{decLt}
 use native.Mathlib.Omega.{arith}
-use borrow.Author.Tests.{le-ltb, eq-eqb, ne-eqb}
+use borrow.Author.Tests.{lt-ltb, le-ltb, eq-eqb, ne-eqb}
 use lib.Dec.{ltb, leb}
 use lib.ListN.{length, getD, set}
 use lib.Seq.{set-getD}
-use mir.Syntax.{w64}
-use mir.Val.{Fits}
 use Rattle.rules.specs.Limits.{maxFixed, maxCoefficient}
 use Rattle.rules.specs.laws.Choice as order
 use Rattle.rules.specs.laws.Choice.{Best, best-keep, best-take}
 use Rattle.rules.specs.laws.Reference.{sooner, better, better-first}
-use Rattle.results.specs.Prices.{choiceAt, kept, priceBy, packed, Methods, Cheapest, OneWay, BothWays}
+use Rattle.results.specs.Prices.{choiceAt, kept, priceBy, packed, lesser, Methods, Estimates, Cheapest, OneWay, BothWays}
+
+-- ---- the lesser of two
+pub lesser-new : {a b : ℕ} → b < a → b ≡ lesser a b
+lesser-new {a} {b} l = rw (lt-ltb b a l)
+
+pub lesser-old : {a b : ℕ} → a ≤ b → a ≡ lesser a b
+lesser-old {a} {b} l = rw (le-ltb b a l)
 
 -- ---- the order of two choices
 module _ (a b : order.Choice) where
@@ -64,10 +69,6 @@ module _ (costs outers methods : List ℕ) (row : ℕ) (new : order.Choice) wher
   row-taken e = rw e (refl, (refl, (refl, refl)))
 
 -- ---- the least of the packed prices
--- what packing a method requires
-pub method-fits : {fixed outer inner result : List ℕ} → Methods fixed outer inner result → (i : ℕ) → (getD fixed i 0 ≤ maxFixed) × (getD outer i 0 ≤ maxCoefficient) × (getD inner i 0 ≤ maxCoefficient) × (getD result i 0 ≤ maxCoefficient)
-method-fits m i = (m .fixed-fits i, m .outer-fits i, m .inner-fits i, m .result-fits i)
-
 -- r is the least packed price of the first k methods
 pub record CheapestOf (fixed outer inner result : List ℕ) (ex ey er k r : ℕ) : Type 0 where
   pub method : ℕ
@@ -104,13 +105,13 @@ module _ {fixed outer inner result : List ℕ} {ex ey er : ℕ} where
         go (yes l) = let o : m ≡ k + 1 = omega arith in rw o (omega (arith, by-next))
         go (no g) = omega (arith, c .least m a (omega arith))
 
-    -- a method that is not cheaper leaves it
-    pub cheapest-stay : {r : ℕ} → best ≤ next → r ≡ best → CheapestOf fixed outer inner result ex ey er (k + 1) r
-    cheapest-stay l f = rw f (record { method = c .method; from-one = c .from-one; to-count = omega (arith, c .to-count); is = c .is; least = among best (le-refl best) l })
-
-    -- a cheaper one takes its place
-    pub cheapest-next : {r : ℕ} → next < best → r ≡ next → CheapestOf fixed outer inner result ex ey er (k + 1) r
-    cheapest-next l f = rw f (record { method = k + 1; from-one = omega arith; to-count = le-refl (k + 1); is = by-next; least = among next (omega arith) (le-refl next) })
+    -- one method more: it is the lesser of what it was and that method's
+    pub one-more : {r : ℕ} → r ≡ lesser best next → CheapestOf fixed outer inner result ex ey er (k + 1) r
+    one-more {r} f = go (decLt next best)
+      where
+        go : Dec (next < best) → CheapestOf fixed outer inner result ex ey er (k + 1) r
+        go (yes l) = rw (f ∙ sym (lesser-new l)) (record { method = k + 1; from-one = omega arith; to-count = le-refl (k + 1); is = by-next; least = among next (omega arith) (le-refl next) })
+        go (no g) = let h : best ≤ next = omega arith in rw (f ∙ sym (lesser-old h)) (record { method = c .method; from-one = c .from-one; to-count = omega (arith, c .to-count); is = c .is; least = among best (le-refl best) h })
 
   -- of all methods it is the cheapest
   pub cheapest-all : {k r : ℕ} → k ≡ length fixed → CheapestOf fixed outer inner result ex ey er k r → Cheapest fixed outer inner result ex ey er r
@@ -149,51 +150,25 @@ module _ {fixed outer inner result : List ℕ} (ms : Methods fixed outer inner r
     unfolding better
     second-best f = best-take (unpacked x ex ey er base d p) (unpacked y ey ex er base t q) (rw (sym e ∙ f) at (better-first (unpack x base d) (unpack y base t) .0))
 
--- ---- the arithmetic of the loop over methods
-pub less-next : {k e : ℕ} → k < e → e - (k + 1) < e - k
-less-next l = omega arith
+-- ---- the arithmetic of the methods one by one
+-- not the last one yet: there is one more
+pub more : {k n : ℕ} → k ≤ n → (n ≡ k → ⊥) → k < n
+more l n = omega arith
 
-pub past-all : {k e n : ℕ} → e ≡ n → e ≤ k → k ≤ n → k ≡ n
-past-all d l h = omega arith
+module _ {fixed outer inner result : List ℕ} (z : Methods fixed outer inner result) {k : ℕ} (l : k < length fixed) where
+  pub in-outer : k < length outer
+  in-outer = omega (arith, z .outer-list)
 
-pub one-eight : 1 < 8
-one-eight = omega arith
+  pub in-inner : k < length inner
+  in-inner = omega (arith, z .inner-list)
 
-pub some-next : (k : ℕ) → 1 ≤ k + 1
-some-next k = omega arith
+  pub in-result : k < length result
+  in-result = omega (arith, z .result-list)
 
-module _ {fixed outer inner result : List ℕ} (z : Methods fixed outer inner result) where
-  pub some-outer : 0 < length outer
-  some-outer = omega (arith, z .outer-list, z .some)
+  -- what packing the method at index k requires
+  pub pack-ready : {ex ey er : ℕ} → Estimates ex ey er → ((getD fixed k 0 ≤ maxFixed) × (getD outer k 0 ≤ maxCoefficient) × (getD inner k 0 ≤ maxCoefficient) × (getD result k 0 ≤ maxCoefficient)) × (Estimates ex ey er × (k + 1 < 8))
+  pack-ready e = ((z .fixed-fits k, z .outer-fits k, z .inner-fits k, z .result-fits k), (e, omega (arith, z .few)))
 
-  pub some-inner : 0 < length inner
-  some-inner = omega (arith, z .inner-list, z .some)
-
-  pub some-result : 0 < length result
-  some-result = omega (arith, z .result-list, z .some)
-
-  -- method k + 1 of them
-  module _ {k e : ℕ} (l : k < e) (d : e ≡ length fixed) where
-    pub in-fixed : k < length fixed
-    in-fixed = omega arith
-
-    pub in-outer : k < length outer
-    in-outer = omega (arith, z .outer-list)
-
-    pub in-inner : k < length inner
-    in-inner = omega (arith, z .inner-list)
-
-    pub in-result : k < length result
-    in-result = omega (arith, z .result-list)
-
-    pub next-in : k + 1 ≤ length fixed
-    next-in = omega arith
-
-    pub next-few : k + 1 < 8
-    next-few = omega (arith, z .few)
-
-    pub cell-fits : Fits w64 (k * 8)
-    cell-fits = omega (arith, z .few)
-
-    pub next-fits : Fits w64 (k + 1)
-    next-fits = omega (arith, z .few)
+  -- the fourth is the last
+  pub last-of-four : k ≡ 3 → 4 ≡ length fixed
+  last-of-four e = omega (arith, z .few)

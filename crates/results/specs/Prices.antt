@@ -4,7 +4,7 @@ use mathlib.Core.Logic.{_⊎_}
 use mathlib.Core.Bool.{cond}
 use mathlib.Core.List.{List}
 use Prim.Native.Nat.{ℕ, _+_, _*_, _≤_}
-use lib.Dec.{eqb}
+use lib.Dec.{eqb, ltb}
 use lib.ListN.{length, getD}
 use Rattle.rules.specs.Limits.{maxMethods, maxFixed, maxCoefficient, maxEstimate}
 use Rattle.rules.specs.Query.{at}
@@ -31,6 +31,10 @@ priceBy fixed outer inner result ex ey er m = at fixed m + at outer m * ex + at 
 -- a price and a method's number in one number
 abbrev pub packed : ℕ → ℕ → ℕ → ℕ → ℕ → ℕ → ℕ → ℕ → ℕ
 packed fixed outer inner result ex ey er m = (fixed + outer * ex + inner * ey + result * er) * 8 + m
+
+-- the lesser of two numbers
+abbrev pub lesser : ℕ → ℕ → ℕ
+lesser a b = cond (ltb b a) b a
 
 -- the methods of a query within their limits
 pub record Methods (fixed outer inner result : List ℕ) : Type 0 where

@@ -4,7 +4,7 @@ ghost use Prim.Native.Nat.{_+_, _<_, _≤_};
 ghost use Rattle.rules.specs.Limits.{maxFixed, maxCoefficient, costBound};
 ghost use Rattle.rules.specs.laws.Choice.{Best};
 ghost use Rattle.rules.specs.laws.Reference.{sooner};
-ghost use Rattle.results.specs.Prices.{choiceOf, packed, Methods, Estimates, Cheapest, BothWays};
+ghost use Rattle.results.specs.Prices.{choiceOf, packed, lesser, Methods, Estimates, Cheapest, BothWays};
 
 // One way to join a pair: its cost, the outer set, the method.
 pub struct Choice {
@@ -48,7 +48,18 @@ fn pack(
     (fixed + outer * ex + inner * ey + result * er) * SHIFT + method
 }
 
-// The cheapest method of a join whose outer part, inner part and result have these estimates, packed with its price.
+// The lesser of two.
+fn less(a: u64, b: u64) -> u64
+    ensures { λ r. ⌜ r ≡ lesser a b ⌝ }
+{
+    if b < a {
+        return b;
+    }
+    a
+}
+
+// The cheapest method of a join whose outer part, inner part and result have these estimates, packed with its price. There are at most
+// four, written out: of a loop over them LLVM makes vector code, which is slower.
 fn cheapest(
     fixed: &[u64],
     outer: &[u64],
@@ -61,23 +72,28 @@ fn cheapest(
     requires { ⌜ Methods (now fixed) (now outer) (now inner) (now result) × Estimates ex ey er ⌝ }
     ensures { λ r. ⌜ Cheapest (now (fixed .entry)) (now (outer .entry)) (now (inner .entry)) (now (result .entry)) ex ey er r ⌝ }
 {
-    let mut best = pack(fixed[0], outer[0], inner[0], result[0], ex, ey, er, 1);
-    for k in 1..fixed.len() {
-        let next = pack(
-            fixed[k],
-            outer[k],
-            inner[k],
-            result[k],
-            ex,
-            ey,
-            er,
-            k as u64 + 1,
-        );
-        if next < best {
-            best = next;
-        }
+    let best = pack(fixed[0], outer[0], inner[0], result[0], ex, ey, er, 1);
+    if fixed.len() == 1 {
+        return best;
     }
-    best
+    let second = less(
+        best,
+        pack(fixed[1], outer[1], inner[1], result[1], ex, ey, er, 2),
+    );
+    if fixed.len() == 2 {
+        return second;
+    }
+    let third = less(
+        second,
+        pack(fixed[2], outer[2], inner[2], result[2], ex, ey, er, 3),
+    );
+    if fixed.len() == 3 {
+        return third;
+    }
+    less(
+        third,
+        pack(fixed[3], outer[3], inner[3], result[3], ex, ey, er, 4),
+    )
 }
 
 // The best way to join the sets `x` and `y`, either as the outer one; `base` is what the two cost.

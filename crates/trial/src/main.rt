@@ -1,16 +1,9 @@
-// Generated queries, planned under several crews, and held cell by cell to an enumeration of its own, which shares no code with the
-// planner. A set is an array of flags. Up to seven tables a cost is the least over all trees, by recursion over all splits with no
-// memo; from eight on, by splits. A skip value is found by looking at each later row, a share by listing all candidates, the log by
-// playing the turns on those lists. Prints counts only.
-mod enumerate;
-mod flags;
-mod generate;
+// Generated queries, planned under several crews, and held cell by cell to the enumeration of `trees`, which shares no code with the
+// planner. Prints counts only.
 mod hold;
-mod memory;
-mod play;
 
-use memory::TALLY;
-use memory::get;
+use drawn::memory::TALLY;
+use drawn::memory::get;
 
 const STDOUT: i32 = 1;
 
