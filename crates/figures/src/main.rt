@@ -2,6 +2,7 @@
 // What it must print was worked out from document 01 apart from this code, and stands in `stdout`.
 use memo::layout::lay_out;
 use refusals::check;
+use rows::tally::tally;
 use sets::lowest_table;
 use sets::single;
 use sets::size;
@@ -120,11 +121,13 @@ fn lay(
     if verdict.number != 0 {
         return 0;
     }
+    let counts = tally(rows, left, right, divisors);
     let laid = lay_out(
         rows,
         left,
         right,
         divisors,
+        &counts,
         sets,
         estimates,
         costs,

@@ -11,6 +11,7 @@ use memo::layout::lay_out;
 use planner::Answer;
 use planner::plan;
 use refusals::check;
+use rows::tally::tally;
 
 // The answer's fourteen numbers.
 fn numbers(answer: Answer) -> [u64; 14]
@@ -150,11 +151,13 @@ pub extern "C" fn lay_columns(
     if verdict.number != 0 {
         return verdict.number;
     }
+    let counts = tally(rows, left, right, divisors);
     let laid = lay_out(
         rows,
         left,
         right,
         divisors,
+        &counts,
         sets,
         estimates,
         costs,

@@ -31,17 +31,6 @@ zeros-more d i e =
     let z : ℕ = 0 in
     rw e (written-push d 0 i (replicate i 0) 0 (omega (arith, length-replicate i z)) ∙ ap (written d 0) (replicate-append-replicate i 1 0))
 
--- a list of zeros alone
-pub zero-cells : (n m k : ℕ) → k ≤ m → getD {A = ℕ} (replicate n 0) k 0 ≡ 0
-zero-cells n m k l = go (decLt k n)
-  where
-    none : ℕ
-    none = 0
-
-    go : Dec (k < n) → getD (replicate n none) k none ≡ none
-    go (yes h) = getD-replicate n k none none h
-    go (no h) = List·getD-eq-default (replicate n none) none (omega (arith, length-replicate n none))
-
 -- how many rows and cells a size has, at most
 pub count-fits : (g : Graph) (k : ℕ) {r : ℕ} → k < tableCount g → tableCount g ≤ maxTables → r ≡ length (rowsOf g (k + 1)) → (r ≤ 65536) × (r * (k + 1) ≤ 1048576)
 count-fits g k {r} l few e =

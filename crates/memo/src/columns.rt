@@ -4,12 +4,9 @@ ghost use Prim.Native.Nat.{_+_, _≤_};
 ghost use lib.ListN.{length, replicate};
 ghost use Rattle.rules.specs.Query.{graphOf};
 ghost use Rattle.rules.specs.Checked.{GoodGraph};
+ghost use Rattle.rows.specs.Near.{Tally};
 ghost use Rattle.skips.specs.Vectors.{written};
 ghost use Rattle.memo.specs.Layout.{starts, cellStarts};
-use rows::tally::tally;
-
-// Room for a number of each size: sizes 0 to N, of at most 16 tables.
-pub const SIZES: usize = 17;
 
 // Clears the first `count` cells.
 pub fn lay_zeros(count: usize, out: &mut [u64])
@@ -27,16 +24,16 @@ pub fn lay_starts(
     left: &[u64],
     right: &[u64],
     divisors: &[u64],
+    counts: &[usize],
     firsts: &mut [usize],
     cells: &mut [usize],
 )
     requires { ⌜ GoodGraph (graphOf (now rows) (now left) (now right) (now divisors)) ⌝ }
     requires { ⌜ (length (now rows) + 2 ≤ length (now firsts)) × (length (now rows) + 2 ≤ length (now cells)) ⌝ }
+    requires { ⌜ Tally (graphOf (now rows) (now left) (now right) (now divisors)) (now counts) ⌝ }
     ensures firsts { λ _. ⌜ now (firsts .exit) ≡ written (now (firsts .entry)) 0 (starts (graphOf (now (rows .entry)) (now (left .entry)) (now (right .entry)) (now (divisors .entry)))) ⌝ }
     ensures cells { λ _. ⌜ now (cells .exit) ≡ written (now (cells .entry)) 0 (cellStarts (graphOf (now (rows .entry)) (now (left .entry)) (now (right .entry)) (now (divisors .entry)))) ⌝ }
 {
-    let mut counts = [0usize; SIZES];
-    tally(rows, left, right, divisors, &mut counts);
     let mut row = 0usize;
     let mut cell = 0usize;
     for k in 0..rows.len() {

@@ -9,12 +9,10 @@ ghost use Rattle.rules.specs.Skips.{skips};
 ghost use Rattle.rows.specs.Near.{Tally};
 ghost use Rattle.skips.specs.Vectors.{written};
 ghost use Rattle.memo.specs.Layout.{lent, OneLength, Room, laid, answered, LaidOut};
-use super::columns::SIZES;
 use super::columns::lay_zeros;
 use rows::fill::lay_rows;
 use rows::tally::all_cells;
 use rows::tally::all_rows;
-use rows::tally::tally;
 use skips::fill_vectors;
 
 // What laying out answers: 0 or the refusal's number, and how many rows and cells there are, 0 where refused.
@@ -89,12 +87,13 @@ fn lay_columns(
     lay_skips(rows, left, right, divisors, counts, sets, skips);
 }
 
-// Lays out the memo, or answers refusal 13 or 14 where a lent list is too short; nothing is written before both counts have passed.
+// Lays out the memo, whose rows `counts` tells, or answers refusal 13 or 14 where a lent list is too short; nothing is written before both counts have passed.
 pub fn lay_out(
     rows: &[u64],
     left: &[u64],
     right: &[u64],
     divisors: &[u64],
+    counts: &[usize],
     sets: &mut [u64],
     estimates: &mut [u64],
     costs: &mut [u64],
@@ -104,15 +103,14 @@ pub fn lay_out(
 ) -> Laid
     requires { ⌜ GoodGraph (graphOf (now rows) (now left) (now right) (now divisors)) ⌝ }
     requires { ⌜ OneLength (lent (now sets) (now estimates) (now costs) (now outers) (now methods) (now skips)) ⌝ }
+    requires { ⌜ Tally (graphOf (now rows) (now left) (now right) (now divisors)) (now counts) ⌝ }
     ensures { λ r. ⌜ LaidOut (graphOf (now (rows .entry)) (now (left .entry)) (now (right .entry)) (now (divisors .entry))) (lent (now (sets .entry)) (now (estimates .entry)) (now (costs .entry)) (now (outers .entry)) (now (methods .entry)) (now (skips .entry))) (lent (now (sets .exit)) (now (estimates .exit)) (now (costs .exit)) (now (outers .exit)) (now (methods .exit)) (now (skips .exit))) r ⌝ }
 {
-    let mut counts = [0usize; SIZES];
-    tally(rows, left, right, divisors, &mut counts);
-    let count = all_rows(rows, left, right, divisors, &counts);
+    let count = all_rows(rows, left, right, divisors, counts);
     if sets.len() < count {
         return answer(13, 0, 0);
     }
-    let cells = all_cells(rows, left, right, divisors, &counts);
+    let cells = all_cells(rows, left, right, divisors, counts);
     if skips.len() < cells {
         return answer(14, 0, 0);
     }
@@ -121,7 +119,7 @@ pub fn lay_out(
         left,
         right,
         divisors,
-        &counts,
+        counts,
         count,
         sets,
         estimates,

@@ -9,6 +9,7 @@ ghost use Rattle.query.specs.Lists.{queryOf};
 ghost use Rattle.planner.specs.Plans.{memoryOf, inputOf, outcomeOf, refusedWith};
 use memo::layout::lay_out;
 use refusals::check;
+use rows::tally::tally;
 use rules::NewScheme;
 use rules::Scheme;
 use runs::search::search;
@@ -103,11 +104,13 @@ pub fn plan(
     if verdict.number != 0 {
         return refused(verdict.number, verdict.place);
     }
+    let counts = tally(rows, left, right, divisors);
     let laid = lay_out(
         rows,
         left,
         right,
         divisors,
+        &counts,
         sets,
         estimates,
         costs,
@@ -131,6 +134,7 @@ pub fn plan(
         known(scheme),
         workers as usize,
         turns,
+        &counts,
         sets,
         estimates,
         costs,

@@ -9,6 +9,7 @@ use crew::whose::whose_turn;
 use memo::columns::lay_starts;
 use memo::layout::lay_out;
 use refusals::check;
+use rows::tally::tally;
 use rules::NewScheme;
 use rules::Scheme;
 use sets::lowest_table;
@@ -339,11 +340,13 @@ fn lay(
     if verdict.number != 0 {
         return false;
     }
+    let counts = tally(rows, left, right, divisors);
     let laid = lay_out(
         rows,
         left,
         right,
         divisors,
+        &counts,
         sets,
         estimates,
         costs,
@@ -354,7 +357,7 @@ fn lay(
     if laid.refusal != 0 {
         return false;
     }
-    lay_starts(rows, left, right, divisors, starts, cells);
+    lay_starts(rows, left, right, divisors, &counts, starts, cells);
     lay_scans(scans, costs);
     true
 }

@@ -8,7 +8,7 @@ use native.Mathlib.Decide.{decLt, ℕ-discrete}
 use native.Mathlib.Omega.{arith}
 use lib.Bits.{bitOr}
 use lib.Dec.{ltb, eqb}
-use lib.ListN.{length, getD, set}
+use lib.ListN.{length, getD, set, replicate, length-replicate, getD-replicate, List·getD-eq-default}
 use lib.Seq.{getD-set-same, getD-set-other}
 use borrow.Author.Tests.{eq-eqb, ne-eqb, lt-ltb, le-ltb}
 use Rattle.rules.specs.Limits.{maxTables}
@@ -129,6 +129,17 @@ root g near good n = record {
   touches = λ u v h k. absurd (omega (arith, holds-pos 0 v h));
   told = sym (no-yes (connected? g 0) (λ c. omega (arith, c .some)));
 }
+
+-- the tally's cells before the walk
+pub zero-cells : (n m k : ℕ) → k ≤ m → getD {A = ℕ} (replicate n 0) k 0 ≡ 0
+zero-cells n m k l = go (decLt k n)
+  where
+    none : ℕ
+    none = 0
+
+    go : Dec (k < n) → getD (replicate n none) k none ≡ none
+    go (yes h) = getD-replicate n k none none h
+    go (no h) = List·getD-eq-default (replicate n none) none (omega (arith, length-replicate n none))
 
 pub counting-root : (g : Graph) (near counts : List ℕ) → GoodGraph g → Near g near → tableCount g < length counts → ((k : ℕ) → k ≤ tableCount g → getD counts k 0 ≡ 0) → Counting near (tableCount g) 1 0 0 false 0 counts
 counting-root g near counts good n l h = record {

@@ -16,6 +16,7 @@ use super::near::neighbours;
 use super::near::stuck;
 use super::parts::table_parts;
 use super::parts::with_part;
+use super::tally::SIZES;
 use sets::single;
 
 // Writes a set and its estimate where it is a row; the place after it.
@@ -115,7 +116,7 @@ pub fn lay_rows(
 {
     let near = neighbours(rows, left, right, divisors);
     let parts = table_parts(rows, left, right, divisors);
-    let mut starts = [0usize; 17];
+    let mut starts = [0usize; SIZES];
     let mut at = 0usize;
     for k in 0..rows.len() {
         starts[k + 1] = at;

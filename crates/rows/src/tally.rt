@@ -13,6 +13,9 @@ use super::near::neighbours;
 use super::near::stuck;
 use sets::single;
 
+// Room for a number of each size: sizes 0 to N, of at most 16 tables.
+pub const SIZES: usize = 17;
+
 // One more where there is a row.
 fn counted(row: bool, count: usize) -> usize
     requires { ⌜ count ≤ 65536 ⌝ }
@@ -56,14 +59,16 @@ fn tally_from(
     tally_from(near, tables, after, chosen, around, joined, size, counts);
 }
 
-// Counts the rows of every size: those of size k into cell k. The cells must be 0.
-pub fn tally(rows: &[u64], left: &[u64], right: &[u64], divisors: &[u64], counts: &mut [usize])
+// How many rows of each size there are: size k's number stands at k.
+pub fn tally(rows: &[u64], left: &[u64], right: &[u64], divisors: &[u64]) -> [usize; SIZES]
     requires { ⌜ GoodGraph (graphOf (now rows) (now left) (now right) (now divisors)) ⌝ }
-    requires { ⌜ (length (now rows) < length (now counts)) × ((k : ℕ) → k ≤ length (now rows) → getD (now counts) k 0 ≡ 0) ⌝ }
-    ensures { λ _. ⌜ Tally (graphOf (now (rows .entry)) (now (left .entry)) (now (right .entry)) (now (divisors .entry))) (now (counts .exit)) ⌝ }
+    ensures counts { λ r. ⌜ Tally (graphOf (now (rows .entry)) (now (left .entry)) (now (right .entry)) (now (divisors .entry))) r ⌝ }
+    ensures long { λ r. ⌜ length r ≡ 17 ⌝ }
 {
     let near = neighbours(rows, left, right, divisors);
-    tally_from(&near, rows.len() as u64, 1, 0, 0, false, 0, counts);
+    let mut counts = [0usize; SIZES];
+    tally_from(&near, rows.len() as u64, 1, 0, 0, false, 0, &mut counts);
+    counts
 }
 
 // How many rows the memo has, by its tally.

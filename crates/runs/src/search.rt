@@ -1,5 +1,7 @@
 // The turns in a row, size after size.
+ghost use Rattle.rules.specs.Query.{graphOf};
 ghost use Rattle.query.specs.Lists.{queryOf};
+ghost use Rattle.rows.specs.Near.{Tally};
 ghost use Rattle.turns.specs.Standing.{columns};
 ghost use Rattle.crew.specs.Logs.{logOf};
 ghost use Rattle.runs.specs.Runs.{SearchReady, SearchDone};
@@ -24,7 +26,7 @@ pub struct Searched {
 // Room for where the rows of each size begin: sizes 0 to N + 1, of at most 16 tables.
 const SIZES: usize = 18;
 
-// Fills the memo by turns, from the smallest result size to the largest, and notes them in the log.
+// Fills the memo, whose rows `counts` tells, by turns, from the smallest result size to the largest, and notes them in the log.
 pub fn search(
     rows: &[u64],
     scans: &[u64],
@@ -38,6 +40,7 @@ pub fn search(
     scheme: Scheme,
     count: usize,
     turns: &[u64],
+    counts: &[usize],
     sets: &[u64],
     estimates: &[u64],
     costs: &mut [u64],
@@ -50,11 +53,12 @@ pub fn search(
     log_costs: &mut [u64],
 ) -> Searched
     requires { ⌜ SearchReady (queryOf (now rows) (now scans) (now left) (now right) (now divisors) (now fixed) (now outer) (now inner) (now result)) count (now turns) (now sets) (now estimates) (now skips) (columns (now costs) (now outers) (now methods)) (logOf (now «log_workers») (now «log_driving») (now «log_inner») (now «log_costs»)) ⌝ }
+    requires { ⌜ Tally (graphOf (now rows) (now left) (now right) (now divisors)) (now counts) ⌝ }
     ensures { λ r. ⌜ SearchDone (queryOf (now (rows .entry)) (now (scans .entry)) (now (left .entry)) (now (right .entry)) (now (divisors .entry)) (now (fixed .entry)) (now (outer .entry)) (now (inner .entry)) (now (result .entry))) scheme count (now (turns .entry)) (columns (now (costs .entry)) (now (outers .entry)) (now (methods .entry))) (columns (now (costs .exit)) (now (outers .exit)) (now (methods .exit))) (logOf (now («log_workers» .entry)) (now («log_driving» .entry)) (now («log_inner» .entry)) (now («log_costs» .entry))) (logOf (now («log_workers» .exit)) (now («log_driving» .exit)) (now («log_inner» .exit)) (now («log_costs» .exit))) (r .pairs) (r .counts) ⌝ }
 {
     let mut firsts = [0usize; SIZES];
     let mut cells = [0usize; SIZES];
-    lay_starts(rows, left, right, divisors, &mut firsts, &mut cells);
+    lay_starts(rows, left, right, divisors, counts, &mut firsts, &mut cells);
     lay_scans(scans, costs);
     let mut workers = [nobody(); 8];
     let mut at = 0usize;

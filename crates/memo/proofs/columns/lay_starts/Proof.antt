@@ -7,13 +7,13 @@ use Rattle.rows.specs.Walk.{upTo}
 use Rattle.rows.specs.WalkLaws.{upTo-none, length-more}
 use Rattle.skips.specs.Vectors.{written}
 use Rattle.memo.specs.Layout.{cellsTo, countsTo}
-use Rattle.memo.specs.ColumnLaws.{zero-cells, count-fits, counts-none, counts-more, counts-end}
+use Rattle.memo.specs.ColumnLaws.{count-fits, counts-none, counts-more, counts-end}
 use Rattle.memo.specs.LayoutLaws.{cells-start, cells-count}
 use Rattle.memo.proofs.columns.lay_starts.Statement.{statement}
 use Rattle.memo.proofs.columns.lay_starts.Tie as tie
 
 abbrev Inv-loop : tie.InvT-loop
-Inv-loop rows left right divisors firsts₀ cells₀ counts row₀ cell₀ k₀ k-end firsts cells row cell k =
+Inv-loop rows left right divisors counts firsts₀ cells₀ row₀ cell₀ k₀ k-end firsts cells row cell k =
     (k ≤ length rows) × (k-end ≡ length rows) × (length firsts ≡ length firsts₀) × (length cells ≡ length cells₀)
     × (row ≤ k * 65536) × (cell ≤ k * 1048576)
     × (row ≡ length (upTo (graphOf rows left right divisors) k)) × (cell ≡ length (cellsTo (graphOf rows left right divisors) k))
@@ -21,19 +21,11 @@ Inv-loop rows left right divisors firsts₀ cells₀ counts row₀ cell₀ k₀ 
     × (cells ≡ written cells₀ 1 (countsTo (λ j. length (cellsTo (graphOf rows left right divisors) j)) k))
 
 abbrev μ-loop : tie.MeasureT-loop
-μ-loop rows left right divisors firsts₀ cells₀ counts row₀ cell₀ k₀ k-end firsts cells row cell k = k-end - k
-
-slice-aggregate-tally : tie.Need-slice-aggregate-tally Inv-loop μ-loop
-slice-aggregate-tally c = omega arith
-
-tally-requires : tie.Need-tally-requires Inv-loop μ-loop
-tally-requires c κs =
-    let s = c .before .before .before .before .before .before .before in
-    (s .pre .0, (omega arith, zero-cells 17 (length (s .args .rows .now))))
+μ-loop rows left right divisors counts firsts₀ cells₀ row₀ cell₀ k₀ k-end firsts cells row cell k = k-end - k
 
 loop-holds : tie.Need-loop-holds Inv-loop μ-loop
 loop-holds c =
-    let s = c .before .before .before .before .before .before .before .before .before in
+    let s = c in
     let g = graphOf (s .args .rows .now) (s .args .left .now) (s .args .right .now) (s .args .divisors .now) in
     (omega arith, refl, refl, refl, omega arith, omega arith, sym (ap length (upTo-none g)), sym (ap length (cells-start g)), counts-none (λ j. length (upTo g j)) (s .args .firsts .now), counts-none (λ j. length (cellsTo g j)) (s .args .cells .now))
 
@@ -61,29 +53,29 @@ add-count c = omega arith
 mul-count : tie.Need-mul-count Inv-loop μ-loop
 mul-count c = omega arith
 
-array-read-count : tie.Need-array-read-count Inv-loop μ-loop
-array-read-count c = omega (arith, c .before .before .before .tally .ensures .long)
+shared-slice-read-count : tie.Need-shared-slice-read-count Inv-loop μ-loop
+shared-slice-read-count c = omega (arith, c .before .before .before .pre .1 .1 .long)
 
 add-row : tie.Need-add-row Inv-loop μ-loop
 add-row c =
-    let s = c .before .before .before .before .before .before .before .before .before .before .before in
-    let l = c .before .loop in
-    omega (arith, count-fits (graphOf (s .args .rows .now) (s .args .left .now) (s .args .right .now) (s .args .divisors .now)) (l .k) (omega arith) (omega arith) (c .before .before .before .tally .ensures .sizes (l .k) (omega arith)) .0)
+    let s = c .before .before .before in
+    let l = c .before .before .loop in
+    omega (arith, count-fits (graphOf (s .args .rows .now) (s .args .left .now) (s .args .right .now) (s .args .divisors .now)) (l .k) (omega arith) (omega arith) (s .pre .1 .1 .sizes (l .k) (omega arith)) .0)
 
 add-cell : tie.Need-add-cell Inv-loop μ-loop
 add-cell c = omega arith
 
 mul-cell : tie.Need-mul-cell Inv-loop μ-loop
 mul-cell c =
-    let s = c .before .before .before .before .before .before .before .before .before .before .before in
-    let l = c .before .loop in
-    omega (arith, count-fits (graphOf (s .args .rows .now) (s .args .left .now) (s .args .right .now) (s .args .divisors .now)) (l .k) (omega arith) (omega arith) (c .before .before .before .tally .ensures .sizes (l .k) (omega arith)) .1)
+    let s = c .before .before .before in
+    let l = c .before .before .loop in
+    omega (arith, count-fits (graphOf (s .args .rows .now) (s .args .left .now) (s .args .right .now) (s .args .divisors .now)) (l .k) (omega arith) (omega arith) (s .pre .1 .1 .sizes (l .k) (omega arith)) .1)
 
 add-cell-2 : tie.Need-add-cell-2 Inv-loop μ-loop
 add-cell-2 c =
-    let s = c .before .before .before .before .before .before .before .before .before .before .before in
-    let l = c .before .loop in
-    omega (arith, count-fits (graphOf (s .args .rows .now) (s .args .left .now) (s .args .right .now) (s .args .divisors .now)) (l .k) (omega arith) (omega arith) (c .before .before .before .tally .ensures .sizes (l .k) (omega arith)) .1)
+    let s = c .before .before .before in
+    let l = c .before .before .loop in
+    omega (arith, count-fits (graphOf (s .args .rows .now) (s .args .left .now) (s .args .right .now) (s .args .divisors .now)) (l .k) (omega arith) (omega arith) (s .pre .1 .1 .sizes (l .k) (omega arith)) .1)
 
 add-k : tie.Need-add-k Inv-loop μ-loop
 add-k c = omega arith
@@ -93,11 +85,10 @@ loop-less c = omega arith
 
 loop-again : tie.Need-loop-again Inv-loop μ-loop
 loop-again c =
-    let s = c .before .before .before .before .before .before .before .before .before .before .before in
-    let l = c .before .loop in
+    let s = c .before .before .before in
+    let l = c .before .before .loop in
     let g = graphOf (s .args .rows .now) (s .args .left .now) (s .args .right .now) (s .args .divisors .now) in
-    let tally′ = c .before .before .before .tally in
-    (omega arith, l .inv .1, length-set (l .firsts) (l .k + 1) (l .row) ∙ l .inv .2, length-set (l .cells) (l .k + 1) (l .cell) ∙ l .inv .3, omega (arith, count-fits g (l .k) (omega arith) (omega arith) (tally′ .ensures .sizes (l .k) (omega arith)) .0), omega (arith, count-fits g (l .k) (omega arith) (omega arith) (tally′ .ensures .sizes (l .k) (omega arith)) .1), omega (arith, tally′ .ensures .sizes (l .k) (omega arith), length-more g (l .k)), omega (arith, cells-count g (l .k) (tally′ .ensures .sizes (l .k) (omega arith))), counts-more (λ j. length (upTo g j)) (s .args .firsts .now) (l .k) (l .inv .8) (l .inv .6), counts-more (λ j. length (cellsTo g j)) (s .args .cells .now) (l .k) (l .inv .9) (l .inv .7))
+    (omega arith, l .inv .1, length-set (l .firsts) (l .k + 1) (l .row) ∙ l .inv .2, length-set (l .cells) (l .k + 1) (l .cell) ∙ l .inv .3, omega (arith, count-fits g (l .k) (omega arith) (omega arith) (s .pre .1 .1 .sizes (l .k) (omega arith)) .0), omega (arith, count-fits g (l .k) (omega arith) (omega arith) (s .pre .1 .1 .sizes (l .k) (omega arith)) .1), omega (arith, s .pre .1 .1 .sizes (l .k) (omega arith), length-more g (l .k)), omega (arith, cells-count g (l .k) (s .pre .1 .1 .sizes (l .k) (omega arith))), counts-more (λ j. length (upTo g j)) (s .args .firsts .now) (l .k) (l .inv .8) (l .inv .6), counts-more (λ j. length (cellsTo g j)) (s .args .cells .now) (l .k) (l .inv .9) (l .inv .7))
 
 add-firsts-2 : tie.Need-add-firsts-2 Inv-loop μ-loop
 add-firsts-2 c = omega arith
@@ -120,28 +111,28 @@ slice-write-cells-2 c = omega arith
 slice-write-firsts-3 : tie.Need-slice-write-firsts-3 Inv-loop μ-loop
 slice-write-firsts-3 c =
     let l = c .before .loop in
-    omega (arith, length-set (l .firsts) (length (c .before .before .before .before .before .before .before .before .before .before .before .args .rows .now) + 1) (l .row))
+    omega (arith, length-set (l .firsts) (length (c .before .before .args .rows .now) + 1) (l .row))
 
 slice-write-cells-3 : tie.Need-slice-write-cells-3 Inv-loop μ-loop
 slice-write-cells-3 c =
     let l = c .before .loop in
-    omega (arith, length-set (l .cells) (length (c .before .before .before .before .before .before .before .before .before .before .before .args .rows .now) + 1) (l .cell))
+    omega (arith, length-set (l .cells) (length (c .before .before .args .rows .now) + 1) (l .cell))
 
 same-length : tie.Need-same-length Inv-loop μ-loop
 same-length c =
-    let s = c .before .before .before .before .before .before .before .before .before .before .before in
+    let s = c .before .before in
     let l = c .before .loop in
     length-set (set (l .firsts) (length (s .args .rows .now) + 1) (l .row)) 0 0 ∙ length-set (l .firsts) (length (s .args .rows .now) + 1) (l .row) ∙ l .inv .2
 
 same-length-2 : tie.Need-same-length-2 Inv-loop μ-loop
 same-length-2 c =
-    let s = c .before .before .before .before .before .before .before .before .before .before .before in
+    let s = c .before .before in
     let l = c .before .loop in
     length-set (set (l .cells) (length (s .args .rows .now) + 1) (l .cell)) 0 0 ∙ length-set (l .cells) (length (s .args .rows .now) + 1) (l .cell) ∙ l .inv .3
 
 returns : tie.Need-returns Inv-loop μ-loop
 returns c =
-    let s = c .before .before .before .before .before .before .before .before .before .before .before in
+    let s = c .before .before in
     let l = c .before .loop in
     let g = graphOf (s .args .rows .now) (s .args .left .now) (s .args .right .now) (s .args .divisors .now) in
     (counts-end (λ j. length (upTo g j)) (s .args .firsts .now) (length (s .args .rows .now)) (l .k) (omega arith) (l .inv .8) (l .inv .6), counts-end (λ j. length (cellsTo g j)) (s .args .cells .now) (length (s .args .rows .now)) (l .k) (omega arith) (l .inv .9) (l .inv .7))
@@ -152,8 +143,6 @@ lay-starts-spec =
     (tie.spec
     Inv-loop
     μ-loop
-    slice-aggregate-tally
-    tally-requires
     loop-holds
     add-firsts
     mul-firsts
@@ -163,7 +152,7 @@ lay-starts-spec =
     slice-write-cells
     add-count
     mul-count
-    array-read-count
+    shared-slice-read-count
     add-row
     add-cell
     mul-cell
