@@ -25,22 +25,22 @@ use Rattle.runs.proofs.search.search.Statement.{statement}
 use Rattle.runs.proofs.search.search.Tie as tie
 
 abbrev Inv-loop2 : tie.InvT-loop2
-Inv-loop2 rows scans left right divisors fixed outer inner result scheme count turns sets estimates costs₀ outers₀ methods₀ skips log-workers₀ log-driving₀ log-inner₀ log-costs₀ firsts cells workers₀ at₀ pairs₀ k s low₀ held₀ worker₀ k-end costs outers methods log-workers log-driving log-inner log-costs workers at pairs low held worker =
+Inv-loop2 rows scans left right divisors fixed outer inner result scheme count turns counts sets estimates costs₀ outers₀ methods₀ skips log-workers₀ log-driving₀ log-inner₀ log-costs₀ firsts cells workers₀ at₀ pairs₀ k s low₀ held₀ worker₀ k-end costs outers methods log-workers log-driving log-inner log-costs workers at pairs low held worker =
     Prepared (queryOf rows scans left right divisors fixed outer inner result) sets estimates skips firsts cells × (2 ≤ s) × (s ≤ length rows) × (length firsts ≡ 18) × (length cells ≡ 18)
     × Underway (queryOf rows scans left right divisors fixed outer inner result) scheme count turns s low (set workers held worker) at pairs (columns costs outers methods) (logOf log-workers log-driving log-inner log-costs)
     × Carried (queryOf rows scans left right divisors fixed outer inner result) scheme count turns s low₀ (set workers₀ held₀ worker₀) at₀ pairs₀ (columns costs₀ outers₀ methods₀) (logOf log-workers₀ log-driving₀ log-inner₀ log-costs₀) low (set workers held worker) at pairs (columns costs outers methods) (logOf log-workers log-driving log-inner log-costs)
     × (held < maxWorkers)
 
 abbrev μ-loop2 : tie.MeasureT-loop2
-μ-loop2 rows scans left right divisors fixed outer inner result scheme count turns sets estimates costs₀ outers₀ methods₀ skips log-workers₀ log-driving₀ log-inner₀ log-costs₀ firsts cells workers₀ at₀ pairs₀ k s low₀ held₀ worker₀ k-end costs outers methods log-workers log-driving log-inner log-costs workers at pairs low held worker = length turns - at + stillMet (graphOf rows left right divisors) s count (set workers held worker)
+μ-loop2 rows scans left right divisors fixed outer inner result scheme count turns counts sets estimates costs₀ outers₀ methods₀ skips log-workers₀ log-driving₀ log-inner₀ log-costs₀ firsts cells workers₀ at₀ pairs₀ k s low₀ held₀ worker₀ k-end costs outers methods log-workers log-driving log-inner log-costs workers at pairs low held worker = length turns - at + stillMet (graphOf rows left right divisors) s count (set workers held worker)
 
 abbrev Inv-loop : tie.InvT-loop
-Inv-loop rows scans left right divisors fixed outer inner result scheme count turns sets estimates costs₀ outers₀ methods₀ skips log-workers₀ log-driving₀ log-inner₀ log-costs₀ firsts cells workers₀ at₀ pairs₀ k₀ k-end costs outers methods log-workers log-driving log-inner log-costs workers at pairs k =
+Inv-loop rows scans left right divisors fixed outer inner result scheme count turns counts sets estimates costs₀ outers₀ methods₀ skips log-workers₀ log-driving₀ log-inner₀ log-costs₀ firsts cells workers₀ at₀ pairs₀ k₀ k-end costs outers methods log-workers log-driving log-inner log-costs workers at pairs k =
     (1 ≤ k) × (k ≤ length rows) × (k-end ≡ length rows) × Prepared (queryOf rows scans left right divisors fixed outer inner result) sets estimates skips firsts cells × (length firsts ≡ 18) × (length cells ≡ 18)
     × Between (queryOf rows scans left right divisors fixed outer inner result) scheme count turns (columns costs₀ outers₀ methods₀) (logOf log-workers₀ log-driving₀ log-inner₀ log-costs₀) (k + 1) workers at pairs (columns costs outers methods) (logOf log-workers log-driving log-inner log-costs)
 
 abbrev μ-loop : tie.MeasureT-loop
-μ-loop rows scans left right divisors fixed outer inner result scheme count turns sets estimates costs₀ outers₀ methods₀ skips log-workers₀ log-driving₀ log-inner₀ log-costs₀ firsts cells workers₀ at₀ pairs₀ k₀ k-end costs outers methods log-workers log-driving log-inner log-costs workers at pairs k = k-end - k
+μ-loop rows scans left right divisors fixed outer inner result scheme count turns counts sets estimates costs₀ outers₀ methods₀ skips log-workers₀ log-driving₀ log-inner₀ log-costs₀ firsts cells workers₀ at₀ pairs₀ k₀ k-end costs outers methods log-workers log-driving log-inner log-costs workers at pairs k = k-end - k
 
 -- the tables of starts, before they are laid
 abbrev zeros : List ℕ
@@ -58,19 +58,20 @@ slice-aggregate-lay-starts-2 c = refl
 
 lay-starts-requires : tie.Need-lay-starts-requires Inv-loop2 μ-loop2 Inv-loop μ-loop
 lay-starts-requires c κs =
-    let z = c .before .before .before .before .before .before .before .before .before .before .before .before .before .before .before .before .before .before .before .before .before .before .pre in
-    (z .sound .graph, (starts-room (z .sound .graph .few-tables), starts-room (z .sound .graph .few-tables)))
+    let s = c .before .before .before .before .before .before .before .before .before .before .before .before .before .before .before .before .before .before .before .before .before .before .before in
+    let z = s .pre .0 in
+    (z .sound .graph, ((starts-room (z .sound .graph .few-tables), starts-room (z .sound .graph .few-tables)), s .pre .1))
 
 lay-scans-requires : tie.Need-lay-scans-requires Inv-loop2 μ-loop2 Inv-loop μ-loop
-lay-scans-requires c κs = scans-fit (c .before .before .before .before .before .before .before .before .before .before .before .before .before .before .before .before .before .before .before .before .before .before .before .before .before .before .pre)
+lay-scans-requires c κs = scans-fit (c .before .before .before .before .before .before .before .before .before .before .before .before .before .before .before .before .before .before .before .before .before .before .before .before .before .before .before .pre .0)
 
 nobody-requires : tie.Need-nobody-requires Inv-loop2 μ-loop2 Inv-loop μ-loop
 nobody-requires c κs = tt
 
 loop-holds : tie.Need-loop-holds Inv-loop2 μ-loop2 Inv-loop μ-loop
 loop-holds c =
-    let s = c .before .before .before .before .before .before .before .before .before .before .before .before .before .before .before .before .before .before .before .before .before .before .before .before .before .before .before .before .before .before in
-    let z = s .pre in
+    let s = c .before .before .before .before .before .before .before .before .before .before .before .before .before .before .before .before .before .before .before .before .before .before .before .before .before .before .before .before .before .before .before in
+    let z = s .pre .0 in
     let g = graphOf (s .args .rows .now) (s .args .left .now) (s .args .right .now) (s .args .divisors .now) in
     let l = c .before .before .before .before .before .before .before .lay-starts .ensures in
     let n = nobodies (c .nobody .ensures) in (
@@ -84,7 +85,7 @@ loop-holds c =
     )
 
 add-s : tie.Need-add-s Inv-loop2 μ-loop2 Inv-loop μ-loop
-add-s c = size-fits (c .before .loop .inv .1) (c .before .before .before .before .before .before .before .before .before .before .before .before .before .before .before .before .before .before .before .before .before .before .before .before .before .before .before .before .before .before .before .before .pre .sound .graph .few-tables)
+add-s c = size-fits (c .before .loop .inv .1) (c .before .before .before .before .before .before .before .before .before .before .before .before .before .before .before .before .before .before .before .before .before .before .before .before .before .before .before .before .before .before .before .before .before .pre .0 .sound .graph .few-tables)
 
 slice-aggregate-open : tie.Need-slice-aggregate-open Inv-loop2 μ-loop2 Inv-loop μ-loop
 slice-aggregate-open c = sym (c .before .before .loop .inv .4)
@@ -94,12 +95,12 @@ slice-aggregate-open-2 c = sym (c .before .before .before .loop .inv .5)
 
 open-requires : tie.Need-open-requires Inv-loop2 μ-loop2 Inv-loop μ-loop
 open-requires c κs =
-    let z = c .before .before .before .before .before .before .before .before .before .before .before .before .before .before .before .before .before .before .before .before .before .before .before .before .before .before .before .before .before .before .before .before .before .before .pre in
+    let z = c .before .before .before .before .before .before .before .before .before .before .before .before .before .before .before .before .before .before .before .before .before .before .before .before .before .before .before .before .before .before .before .before .before .before .before .pre .0 in
     let l = c .before .before .before .loop in
     ((z .sound .graph, l .inv .3 .ground), (two-of (l .inv .0), size-of (c .before .before .loop-test .taken) (l .inv .2), z .some-worker, z .few-workers))
 
 lowest-requires : tie.Need-lowest-requires Inv-loop2 μ-loop2 Inv-loop μ-loop
-lowest-requires c κs = c .before .before .before .before .before .before .before .before .before .before .before .before .before .before .before .before .before .before .before .before .before .before .before .before .before .before .before .before .before .before .before .before .before .before .before .pre .few-workers
+lowest-requires c κs = c .before .before .before .before .before .before .before .before .before .before .before .before .before .before .before .before .before .before .before .before .before .before .before .before .before .before .before .before .before .before .before .before .before .before .before .before .pre .0 .few-workers
 
 array-copy-out-worker : tie.Need-array-copy-out-worker Inv-loop2 μ-loop2 Inv-loop μ-loop
 array-copy-out-worker c = some-workers
@@ -107,7 +108,7 @@ array-copy-out-worker c = some-workers
 loop2-holds : tie.Need-loop2-holds Inv-loop2 μ-loop2 Inv-loop μ-loop
 loop2-holds c =
     let open′ = c .before .before .«open» in
-    let z = c .before .before .before .before .before .before .before .before .before .before .before .before .before .before .before .before .before .before .before .before .before .before .before .before .before .before .before .before .before .before .before .before .before .before .before .before .before .pre in
+    let z = c .before .before .before .before .before .before .before .before .before .before .before .before .before .before .before .before .before .before .before .before .before .before .before .before .before .before .before .before .before .before .before .before .before .before .before .before .before .before .pre .0 in
     let l = c .before .before .before .before .before .before .loop in
     let two = two-of (l .inv .0) in
     let known = size-of (c .before .before .before .before .before .loop-test .taken) (l .inv .2) in (
@@ -132,14 +133,14 @@ array-set-from-workers c = c .before .before .before .loop2 .inv .7
 
 mul-worker : tie.Need-mul-worker Inv-loop2 μ-loop2 Inv-loop μ-loop
 mul-worker c =
-    let z = c .before .before .before .before .before .before .before .before .before .before .before .before .before .before .before .before .before .before .before .before .before .before .before .before .before .before .before .before .before .before .before .before .before .before .before .before .before .before .before .before .before .pre in
+    let z = c .before .before .before .before .before .before .before .before .before .before .before .before .before .before .before .before .before .before .before .before .before .before .before .before .before .before .before .before .before .before .before .before .before .before .before .before .before .before .before .before .before .before .pre .0 in
     let m = c .before .before .before .loop2 in
     let u = m .inv .5 in
     scaled-fits _ maxWorkers _ (below-eight (whose-known (z .sound) (m .inv .1) (m .inv .2) (u .lent-fits) (z .turns-known) (u .within) (c .before .before .loop2-test .taken) (c .before .whose-turn .ensures)) (z .few-workers)) (lit< tt)
 
 array-copy-out-worker-2 : tie.Need-array-copy-out-worker-2 Inv-loop2 μ-loop2 Inv-loop μ-loop
 array-copy-out-worker-2 c =
-    let z = c .before .before .before .before .before .before .before .before .before .before .before .before .before .before .before .before .before .before .before .before .before .before .before .before .before .before .before .before .before .before .before .before .before .before .before .before .before .before .before .before .before .pre in
+    let z = c .before .before .before .before .before .before .before .before .before .before .before .before .before .before .before .before .before .before .before .before .before .before .before .before .before .before .before .before .before .before .before .before .before .before .before .before .before .before .before .before .before .before .pre .0 in
     let m = c .before .before .before .loop2 in
     let u = m .inv .5 in
     below-eight (whose-known (z .sound) (m .inv .1) (m .inv .2) (u .lent-fits) (z .turns-known) (u .within) (c .before .before .loop2-test .taken) (c .before .whose-turn .ensures)) (z .few-workers)
@@ -161,7 +162,7 @@ in-hand c =
 -- and it is one of the table's
 held-inside : (c : tie.Joined1 Inv-loop2 μ-loop2 Inv-loop μ-loop) → c .if1 .held < maxWorkers
 held-inside c =
-    let z = c .before .before .before .before .before .before .before .before .before .before .before .before .before .before .before .before .before .before .before .before .before .before .before .before .before .before .before .before .before .before .before .before .before .before .before .before .before .before .before .before .before .pre in
+    let z = c .before .before .before .before .before .before .before .before .before .before .before .before .before .before .before .before .before .before .before .before .before .before .before .before .before .before .before .before .before .before .before .before .before .before .before .before .before .before .before .before .before .before .pre .0 in
     let m = c .before .before .before .loop2 in
     let u = m .inv .5 in
     rw (in-hand c .whose) (below-eight (whose-known (z .sound) (m .inv .1) (m .inv .2) (u .lent-fits) (z .turns-known) (u .within) (c .before .before .loop2-test .taken) (c .before .whose-turn .ensures)) (z .few-workers))
@@ -170,7 +171,7 @@ step-requires : tie.Need-step-requires Inv-loop2 μ-loop2 Inv-loop μ-loop
 step-requires c κs =
     let loop2-test′ = c .before .before .before .before .before .before .before .loop2-test in
     let whose-turn′ = c .before .before .before .before .before .before .whose-turn in
-    let z = c .before .before .before .before .before .before .before .before .before .before .before .before .before .before .before .before .before .before .before .before .before .before .before .before .before .before .before .before .before .before .before .before .before .before .before .before .before .before .before .before .before .before .before .before .before .before .pre in
+    let z = c .before .before .before .before .before .before .before .before .before .before .before .before .before .before .before .before .before .before .before .before .before .before .before .before .before .before .before .before .before .before .before .before .before .before .before .before .before .before .before .before .before .before .before .before .before .before .before .pre .0 in
     let m = c .before .before .before .before .before .before .before .before .loop2 in
     let u = m .inv .5 in
     let h = in-hand (c .before .before .before .before .before) in
@@ -178,7 +179,7 @@ step-requires c κs =
 
 note-requires : tie.Need-note-requires Inv-loop2 μ-loop2 Inv-loop μ-loop
 note-requires c κs =
-    let z = c .before .before .before .before .before .before .before .before .before .before .before .before .before .before .before .before .before .before .before .before .before .before .before .before .before .before .before .before .before .before .before .before .before .before .before .before .before .before .before .before .before .before .before .before .before .before .before .before .before .before .before .before .before .before .before .before .before .before .before .pre in
+    let z = c .before .before .before .before .before .before .before .before .before .before .before .before .before .before .before .before .before .before .before .before .before .before .before .before .before .before .before .before .before .before .before .before .before .before .before .before .before .before .before .before .before .before .before .before .before .before .before .before .before .before .before .before .before .before .before .before .before .before .before .before .pre .0 in
     let m = c .before .before .before .before .before .before .before .before .before .before .before .before .before .before .before .before .before .before .before .before .before .loop2 in
     let u = m .inv .5 in
     let f = u .within .log-fits in
@@ -194,14 +195,14 @@ array-set-from-workers-2 : tie.Need-array-set-from-workers-2 Inv-loop2 μ-loop2 
 array-set-from-workers-2 c = held-inside (c .before .before .before .before .before .before .before .before .before .before .before .before .before .before .before .before .before .before .before .before .before .before .before .before .before .before .before .before .before .before .before)
 
 lowest-requires-2 : tie.Need-lowest-requires-2 Inv-loop2 μ-loop2 Inv-loop μ-loop
-lowest-requires-2 c κs = c .before .before .before .before .before .before .before .before .before .before .before .before .before .before .before .before .before .before .before .before .before .before .before .before .before .before .before .before .before .before .before .before .before .before .before .before .before .before .before .before .before .before .before .before .before .before .before .before .before .before .before .before .before .before .before .before .before .before .before .before .before .before .before .before .before .before .before .before .before .before .before .before .pre .few-workers
+lowest-requires-2 c κs = c .before .before .before .before .before .before .before .before .before .before .before .before .before .before .before .before .before .before .before .before .before .before .before .before .before .before .before .before .before .before .before .before .before .before .before .before .before .before .before .before .before .before .before .before .before .before .before .before .before .before .before .before .before .before .before .before .before .before .before .before .before .before .before .before .before .before .before .before .before .before .before .before .before .pre .0 .few-workers
 
 loop2-less : tie.Need-loop2-less Inv-loop2 μ-loop2 Inv-loop μ-loop
 loop2-less c =
     let loop2-test′ = c .before .before .before .before .before .before .before .before .before .before .before .before .before .before .before .before .before .before .before .before .before .before .before .before .before .before .before .before .before .before .before .before .before .before .loop2-test in
     let whose-turn′ = c .before .before .before .before .before .before .before .before .before .before .before .before .before .before .before .before .before .before .before .before .before .before .before .before .before .before .before .before .before .before .before .before .before .whose-turn in
     let step′ = c .before .before .before .before .before .before .before .before .before .before .before .before .before .before .before .before .before .before .before .before .before .before .before .before .before .before .step in
-    let z = c .before .before .before .before .before .before .before .before .before .before .before .before .before .before .before .before .before .before .before .before .before .before .before .before .before .before .before .before .before .before .before .before .before .before .before .before .before .before .before .before .before .before .before .before .before .before .before .before .before .before .before .before .before .before .before .before .before .before .before .before .before .before .before .before .before .before .before .before .before .before .before .before .before .pre in
+    let z = c .before .before .before .before .before .before .before .before .before .before .before .before .before .before .before .before .before .before .before .before .before .before .before .before .before .before .before .before .before .before .before .before .before .before .before .before .before .before .before .before .before .before .before .before .before .before .before .before .before .before .before .before .before .before .before .before .before .before .before .before .before .before .before .before .before .before .before .before .before .before .before .before .before .before .pre .0 in
     let m = c .before .before .before .before .before .before .before .before .before .before .before .before .before .before .before .before .before .before .before .before .before .before .before .before .before .before .before .before .before .before .before .before .before .before .before .loop2 in
     let u = m .inv .5 in
     let k = below-eight (whose-known (z .sound) (m .inv .1) (m .inv .2) (u .lent-fits) (z .turns-known) (u .within) (loop2-test′ .taken) (whose-turn′ .ensures)) (z .few-workers) in
@@ -214,7 +215,7 @@ loop2-again c =
     let whose-turn′ = c .before .before .before .before .before .before .before .before .before .before .before .before .before .before .before .before .before .before .before .before .before .before .before .before .before .before .before .before .before .before .before .before .before .whose-turn in
     let step′ = c .before .before .before .before .before .before .before .before .before .before .before .before .before .before .before .before .before .before .before .before .before .before .before .before .before .before .step in
     let entries-on′ = c .before .before .before .before .entries-on in
-    let z = c .before .before .before .before .before .before .before .before .before .before .before .before .before .before .before .before .before .before .before .before .before .before .before .before .before .before .before .before .before .before .before .before .before .before .before .before .before .before .before .before .before .before .before .before .before .before .before .before .before .before .before .before .before .before .before .before .before .before .before .before .before .before .before .before .before .before .before .before .before .before .before .before .before .pre in
+    let z = c .before .before .before .before .before .before .before .before .before .before .before .before .before .before .before .before .before .before .before .before .before .before .before .before .before .before .before .before .before .before .before .before .before .before .before .before .before .before .before .before .before .before .before .before .before .before .before .before .before .before .before .before .before .before .before .before .before .before .before .before .before .before .before .before .before .before .before .before .before .before .before .before .before .before .pre .0 in
     let m = c .before .before .before .before .before .before .before .before .before .before .before .before .before .before .before .before .before .before .before .before .before .before .before .before .before .before .before .before .before .before .before .before .before .before .before .loop2 in
     let u = m .inv .5 in
     let k = below-eight (whose-known (z .sound) (m .inv .1) (m .inv .2) (u .lent-fits) (z .turns-known) (u .within) (loop2-test′ .taken) (whose-turn′ .ensures)) (z .few-workers) in
@@ -235,7 +236,7 @@ loop2-less-2 : tie.Need-loop2-less-2 Inv-loop2 μ-loop2 Inv-loop μ-loop
 loop2-less-2 c =
     let loop2-test′ = c .before .before .before .before .before .before .before .before .before .before .before .before .before .before .before .before .before .before .before .before .before .before .before .before .before .before .before .before .before .before .before .before .loop2-test in
     let whose-turn′ = c .before .before .before .before .before .before .before .before .before .before .before .before .before .before .before .before .before .before .before .before .before .before .before .before .before .before .before .before .before .before .before .whose-turn in
-    let z = c .before .before .before .before .before .before .before .before .before .before .before .before .before .before .before .before .before .before .before .before .before .before .before .before .before .before .before .before .before .before .before .before .before .before .before .before .before .before .before .before .before .before .before .before .before .before .before .before .before .before .before .before .before .before .before .before .before .before .before .before .before .before .before .before .before .before .before .before .before .before .before .pre in
+    let z = c .before .before .before .before .before .before .before .before .before .before .before .before .before .before .before .before .before .before .before .before .before .before .before .before .before .before .before .before .before .before .before .before .before .before .before .before .before .before .before .before .before .before .before .before .before .before .before .before .before .before .before .before .before .before .before .before .before .before .before .before .before .before .before .before .before .before .before .before .before .before .before .before .pre .0 in
     let m = c .before .before .before .before .before .before .before .before .before .before .before .before .before .before .before .before .before .before .before .before .before .before .before .before .before .before .before .before .before .before .before .before .before .loop2 in
     let u = m .inv .5 in
     let k = below-eight (whose-known (z .sound) (m .inv .1) (m .inv .2) (u .lent-fits) (z .turns-known) (u .within) (loop2-test′ .taken) (whose-turn′ .ensures)) (z .few-workers) in
@@ -248,7 +249,7 @@ loop2-again-2 c =
     let whose-turn′ = c .before .before .before .before .before .before .before .before .before .before .before .before .before .before .before .before .before .before .before .before .before .before .before .before .before .before .before .before .before .before .before .whose-turn in
     let step′ = c .before .before .before .before .before .before .before .before .before .before .before .before .before .before .before .before .before .before .before .before .before .before .before .before .step in
     let entries-on′ = c .before .before .entries-on in
-    let z = c .before .before .before .before .before .before .before .before .before .before .before .before .before .before .before .before .before .before .before .before .before .before .before .before .before .before .before .before .before .before .before .before .before .before .before .before .before .before .before .before .before .before .before .before .before .before .before .before .before .before .before .before .before .before .before .before .before .before .before .before .before .before .before .before .before .before .before .before .before .before .before .pre in
+    let z = c .before .before .before .before .before .before .before .before .before .before .before .before .before .before .before .before .before .before .before .before .before .before .before .before .before .before .before .before .before .before .before .before .before .before .before .before .before .before .before .before .before .before .before .before .before .before .before .before .before .before .before .before .before .before .before .before .before .before .before .before .before .before .before .before .before .before .before .before .before .before .before .before .pre .0 in
     let m = c .before .before .before .before .before .before .before .before .before .before .before .before .before .before .before .before .before .before .before .before .before .before .before .before .before .before .before .before .before .before .before .before .before .loop2 in
     let u = m .inv .5 in
     let k = below-eight (whose-known (z .sound) (m .inv .1) (m .inv .2) (u .lent-fits) (z .turns-known) (u .within) (loop2-test′ .taken) (whose-turn′ .ensures)) (z .few-workers) in
@@ -272,7 +273,7 @@ array-set-from-workers-3 : tie.Need-array-set-from-workers-3 Inv-loop2 μ-loop2 
 array-set-from-workers-3 c = c .before .loop2 .inv .7
 
 add-k : tie.Need-add-k Inv-loop2 μ-loop2 Inv-loop μ-loop
-add-k c = size-fits (c .before .before .before .before .before .before .before .before .loop .inv .1) (c .before .before .before .before .before .before .before .before .before .before .before .before .before .before .before .before .before .before .before .before .before .before .before .before .before .before .before .before .before .before .before .before .before .before .before .before .before .before .before .pre .sound .graph .few-tables)
+add-k c = size-fits (c .before .before .before .before .before .before .before .before .loop .inv .1) (c .before .before .before .before .before .before .before .before .before .before .before .before .before .before .before .before .before .before .before .before .before .before .before .before .before .before .before .before .before .before .before .before .before .before .before .before .before .before .before .before .pre .0 .sound .graph .few-tables)
 
 loop-less : tie.Need-loop-less Inv-loop2 μ-loop2 Inv-loop μ-loop
 loop-less c = less-size (c .before .before .before .before .before .before .before .loop-test .taken)
@@ -280,7 +281,7 @@ loop-less c = less-size (c .before .before .before .before .before .before .befo
 loop-again : tie.Need-loop-again Inv-loop2 μ-loop2 Inv-loop μ-loop
 loop-again c =
     let open′ = c .before .before .before .before .«open» in
-    let z = c .before .before .before .before .before .before .before .before .before .before .before .before .before .before .before .before .before .before .before .before .before .before .before .before .before .before .before .before .before .before .before .before .before .before .before .before .before .before .before .pre in
+    let z = c .before .before .before .before .before .before .before .before .before .before .before .before .before .before .before .before .before .before .before .before .before .before .before .before .before .before .before .before .before .before .before .before .before .before .before .before .before .before .before .before .pre .0 in
     let l = c .before .before .before .before .before .before .before .before .loop in
     let m = c .before .loop2 in
     let w = m .inv .6 .carry _ _ (z .log-fits) (hand-start (open′ .result) (within-open (z .sound) (m .inv .1) (m .inv .2) (z .some-worker) (z .few-workers) (l .inv .6) (open′ .ensures) (c .before .before .before .lowest .ensures))) in (
@@ -298,7 +299,7 @@ counts-of-requires c κs = tt
 
 same-length : tie.Need-same-length Inv-loop2 μ-loop2 Inv-loop μ-loop
 same-length c =
-    let s = c .before .before .before .before .before .before .before .before .before .before .before .before .before .before .before .before .before .before .before .before .before .before .before .before .before .before .before .before .before .before .before .before .before in
+    let s = c .before .before .before .before .before .before .before .before .before .before .before .before .before .before .before .before .before .before .before .before .before .before .before .before .before .before .before .before .before .before .before .before .before .before in
     c .before .before .loop .inv .6 .kept .costs .length-kept ∙ laid-length (s .args .costs .now) (s .args .scans .now) (c .before .before .before .before .before .before .lay-scans .ensures)
 
 same-length-2 : tie.Need-same-length-2 Inv-loop2 μ-loop2 Inv-loop μ-loop
@@ -308,21 +309,21 @@ same-length-3 : tie.Need-same-length-3 Inv-loop2 μ-loop2 Inv-loop μ-loop
 same-length-3 c = c .before .before .loop .inv .6 .kept .methods .length-kept
 
 same-length-4 : tie.Need-same-length-4 Inv-loop2 μ-loop2 Inv-loop μ-loop
-same-length-4 c = logged-lengths (c .before .before .loop .inv .6 .ran .logged) (c .before .before .before .before .before .before .before .before .before .before .before .before .before .before .before .before .before .before .before .before .before .before .before .before .before .before .before .before .before .before .before .before .before .pre .log-fits) .0
+same-length-4 c = logged-lengths (c .before .before .loop .inv .6 .ran .logged) (c .before .before .before .before .before .before .before .before .before .before .before .before .before .before .before .before .before .before .before .before .before .before .before .before .before .before .before .before .before .before .before .before .before .before .pre .0 .log-fits) .0
 
 same-length-5 : tie.Need-same-length-5 Inv-loop2 μ-loop2 Inv-loop μ-loop
-same-length-5 c = logged-lengths (c .before .before .loop .inv .6 .ran .logged) (c .before .before .before .before .before .before .before .before .before .before .before .before .before .before .before .before .before .before .before .before .before .before .before .before .before .before .before .before .before .before .before .before .before .pre .log-fits) .1
+same-length-5 c = logged-lengths (c .before .before .loop .inv .6 .ran .logged) (c .before .before .before .before .before .before .before .before .before .before .before .before .before .before .before .before .before .before .before .before .before .before .before .before .before .before .before .before .before .before .before .before .before .before .pre .0 .log-fits) .1
 
 same-length-6 : tie.Need-same-length-6 Inv-loop2 μ-loop2 Inv-loop μ-loop
-same-length-6 c = logged-lengths (c .before .before .loop .inv .6 .ran .logged) (c .before .before .before .before .before .before .before .before .before .before .before .before .before .before .before .before .before .before .before .before .before .before .before .before .before .before .before .before .before .before .before .before .before .pre .log-fits) .2
+same-length-6 c = logged-lengths (c .before .before .loop .inv .6 .ran .logged) (c .before .before .before .before .before .before .before .before .before .before .before .before .before .before .before .before .before .before .before .before .before .before .before .before .before .before .before .before .before .before .before .before .before .before .pre .0 .log-fits) .2
 
 same-length-7 : tie.Need-same-length-7 Inv-loop2 μ-loop2 Inv-loop μ-loop
-same-length-7 c = logged-lengths (c .before .before .loop .inv .6 .ran .logged) (c .before .before .before .before .before .before .before .before .before .before .before .before .before .before .before .before .before .before .before .before .before .before .before .before .before .before .before .before .before .before .before .before .before .pre .log-fits) .3
+same-length-7 c = logged-lengths (c .before .before .loop .inv .6 .ran .logged) (c .before .before .before .before .before .before .before .before .before .before .before .before .before .before .before .before .before .before .before .before .before .before .before .before .before .before .before .before .before .before .before .before .before .before .pre .0 .log-fits) .3
 
 returns : tie.Need-returns Inv-loop2 μ-loop2 Inv-loop μ-loop
 returns c =
-    let s = c .before .before .before .before .before .before .before .before .before .before .before .before .before .before .before .before .before .before .before .before .before .before .before .before .before .before .before .before .before .before .before .before .before in
-    let z = s .pre in
+    let s = c .before .before .before .before .before .before .before .before .before .before .before .before .before .before .before .before .before .before .before .before .before .before .before .before .before .before .before .before .before .before .before .before .before .before in
+    let z = s .pre .0 in
     let l = c .before .before .loop in
     let e : l .k ≡ length (s .args .rows .now) = all-sizes (l .inv .1) (l .inv .2) (c .before .loop-test .left) in
     rw (c .counts-of .ensures) (between-end z (c .before .before .before .before .before .before .lay-scans .ensures) (rw e at (l .inv .6)))
