@@ -262,7 +262,7 @@ fill-from-with-part-requires : (t : ℕ) → fill-from-lts.Need-with-part-requir
 ) (fill-from-at t) fill-from.Post
 fill-from-with-part-requires t c κs =
     let s = c .before .before .before .before .before .before .before .before .before .before in
-    (linked-divides (s .pre .1 .1 .node) (s .pre .1 .1 .valued) (omega (arith, c .before .before .before .before .before .before .if1 .left)), value-fits (s .pre .1 .1 .node) (s .pre .1 .1 .valued) (omega (arith, c .before .before .before .before .before .before .if1 .left)))
+    (linked-divides (s .pre .1 .1 .node) (s .pre .1 .1 .valued) (c .before .before .before .before .before .before .if1 .left), value-fits (s .pre .1 .1 .node) (s .pre .1 .1 .valued) (c .before .before .before .before .before .before .if1 .left))
 
 fill-from-add-after : (t : ℕ) → fill-from-lts.Need-add-after (
   single-reads.Asked,
@@ -353,7 +353,7 @@ fill-from-put-requires : (t : ℕ) → fill-from-lts.Need-put-requires (
 fill-from-put-requires t c κs =
     let s = c .before .before .before .before .before .before .before .before .before .before .before .before .before .before in
     let single′ = c .before .before .before .before .before .before .before .before .before .single in
-    fits-row (s .pre .1 .1) (single′ .result) (c .before .before .before .before .before .grows .result) (omega (arith, c .before .before .before .before .before .before .before .before .before .before .if1 .left)) (single′ .ensures) (c .before .before .before .before .before .grows .ensures .told (s .pre .1 .0) (s .args .tables) (s .args .t) (s .pre .1 .1 .node) (omega (arith, c .before .before .before .before .before .before .before .before .before .before .if1 .left)) (single′ .ensures))
+    fits-row (s .pre .1 .1) (single′ .result) (c .before .before .before .before .before .grows .result) (c .before .before .before .before .before .before .before .before .before .before .if1 .left) (single′ .ensures) (c .before .before .before .before .before .grows .ensures .told (s .pre .1 .0) (s .args .tables) (s .args .t) (s .pre .1 .1 .node) (c .before .before .before .before .before .before .before .before .before .before .if1 .left) (single′ .ensures))
 
 fill-from-mul-starts : (t : ℕ) → fill-from-lts.Need-mul-starts (
   single-reads.Asked,
@@ -410,7 +410,7 @@ fill-from-fill-from-requires t c κs =
     let if1′ = c .before .before .before .before .before .before .before .before .before .before .before .before .before .before .before .before .before .before .if1 in
     let single′ = c .before .before .before .before .before .before .before .before .before .before .before .before .before .before .before .before .before .single in
     let put′ = c .before .before .before .before .before .before .before .put in
-    (omega (arith, if1′ .left), ((s .pre .1 .0), filling-with (s .pre .1 .1) (single′ .result) (c .before .before .before .before .before .before .before .before .before .before .before .before .before .grows .result) (omega (arith, if1′ .left)) (single′ .ensures) (c .before .before .before .before .before .before .before .before .before .before .before .before .before .grows .ensures .told (s .pre .1 .0) (s .args .tables) (s .args .t) (s .pre .1 .1 .node) (omega (arith, if1′ .left)) (single′ .ensures)) (put′ .ensures .0) (c .before .before .before .before .before .before .before .before .before .before .before .with-part .ensures) (put′ .kept .1 .1 .1 .0) (put′ .kept .1 .1 .1 .1 .0)))
+    (omega (arith, if1′ .left), ((s .pre .1 .0), filling-with (s .pre .1 .1) (single′ .result) (c .before .before .before .before .before .before .before .before .before .before .before .before .before .grows .result) (if1′ .left) (single′ .ensures) (c .before .before .before .before .before .before .before .before .before .before .before .before .before .grows .ensures .told (s .pre .1 .0) (s .args .tables) (s .args .t) (s .pre .1 .1 .node) (if1′ .left) (single′ .ensures)) (put′ .ensures .0) (c .before .before .before .before .before .before .before .before .before .before .before .with-part .ensures) (put′ .kept .1 .1 .1 .0) (put′ .kept .1 .1 .1 .1 .0)))
 
 fill-from-fill-from-requires-2 : (t : ℕ) → fill-from-lts.Need-fill-from-requires-2 (
   single-reads.Asked,
@@ -433,7 +433,7 @@ fill-from-fill-from-requires-2 t c κs =
     let grows′ = c .before .before .before .before .before .before .before .before .before .before .before .before .before .before .before .before .before .before .before .before .before .before .before .grows in
     let put′ = c .before .before .before .before .before .before .before .before .before .before .before .before .before .before .before .before .before .put in
     let fill-from′ = c .before .before .before .before .before .before .before .before .before .fill-from in
-    (omega (arith, if1′ .left), ((s .pre .1 .0), filling-without (s .pre .1 .1) (single′ .result) (grows′ .result) (omega (arith, if1′ .left)) (single′ .ensures) (grows′ .ensures .told (s .pre .1 .0) (s .args .tables) (s .args .t) (s .pre .1 .1 .node) (omega (arith, if1′ .left)) (single′ .ensures)) (put′ .ensures .0) (c .before .before .before .before .before .before .before .before .before .before .before .before .before .before .before .before .before .before .before .before .before .with-part .ensures) (put′ .kept .1 .1 .1 .0) (put′ .kept .1 .1 .1 .1 .0) (fill-from′ .ensures (s .pre .1 .0) (filling-with (s .pre .1 .1) (single′ .result) (grows′ .result) (omega (arith, if1′ .left)) (single′ .ensures) (grows′ .ensures .told (s .pre .1 .0) (s .args .tables) (s .args .t) (s .pre .1 .1 .node) (omega (arith, if1′ .left)) (single′ .ensures)) (put′ .ensures .0) (c .before .before .before .before .before .before .before .before .before .before .before .before .before .before .before .before .before .before .before .before .before .with-part .ensures) (put′ .kept .1 .1 .1 .0) (put′ .kept .1 .1 .1 .1 .0))) (fill-from′ .kept .1 .1 .1 .1 .1 .1 .1 .1 .1 .0) (fill-from′ .kept .1 .1 .1 .1 .1 .1 .1 .1 .1 .1 .0) (fill-from′ .kept .1 .1 .1 .1 .1 .1 .1 .1 .1 .1 .1 .0)))
+    (omega (arith, if1′ .left), ((s .pre .1 .0), filling-without (s .pre .1 .1) (single′ .result) (grows′ .result) (if1′ .left) (single′ .ensures) (grows′ .ensures .told (s .pre .1 .0) (s .args .tables) (s .args .t) (s .pre .1 .1 .node) (if1′ .left) (single′ .ensures)) (put′ .ensures .0) (c .before .before .before .before .before .before .before .before .before .before .before .before .before .before .before .before .before .before .before .before .before .with-part .ensures) (put′ .kept .1 .1 .1 .0) (put′ .kept .1 .1 .1 .1 .0) (fill-from′ .ensures (s .pre .1 .0) (filling-with (s .pre .1 .1) (single′ .result) (grows′ .result) (if1′ .left) (single′ .ensures) (grows′ .ensures .told (s .pre .1 .0) (s .args .tables) (s .args .t) (s .pre .1 .1 .node) (if1′ .left) (single′ .ensures)) (put′ .ensures .0) (c .before .before .before .before .before .before .before .before .before .before .before .before .before .before .before .before .before .before .before .before .before .with-part .ensures) (put′ .kept .1 .1 .1 .0) (put′ .kept .1 .1 .1 .1 .0))) (fill-from′ .kept .1 .1 .1 .1 .1 .1 .1 .1 .1 .0) (fill-from′ .kept .1 .1 .1 .1 .1 .1 .1 .1 .1 .1 .0) (fill-from′ .kept .1 .1 .1 .1 .1 .1 .1 .1 .1 .1 .1 .0)))
 
 fill-from-same-length : (t : ℕ) → fill-from-lts.Need-same-length (
   single-reads.Asked,
@@ -508,8 +508,8 @@ fill-from-returns-3 t c =
     let put′ = c .before .before .before .before .before .before .before .before .before .before .before .before .before .before .before .before .before .before .before .before .before .before .before .before .put in
     let with-part′ = c .before .before .before .before .before .before .before .before .before .before .before .before .before .before .before .before .before .before .before .before .before .before .before .before .before .before .before .before .with-part in
     λ g d.
-    let first = fill-from′ .ensures g (filling-with (d) (single′ .result) (grows′ .result) (omega (arith, if1′ .left)) (single′ .ensures) (grows′ .ensures .told g (s .args .tables) (s .args .t) (d .node) (omega (arith, if1′ .left)) (single′ .ensures)) (put′ .ensures .0) (with-part′ .ensures) (put′ .kept .1 .1 .1 .0) (put′ .kept .1 .1 .1 .1 .0)) in
-    filled-step (d) (single′ .result) (grows′ .result) (omega (arith, if1′ .left)) (single′ .ensures) (grows′ .ensures .told g (s .args .tables) (s .args .t) (d .node) (omega (arith, if1′ .left)) (single′ .ensures)) (put′ .ensures .0) (with-part′ .ensures) (put′ .kept .1 .1 .1 .0) (put′ .kept .1 .1 .1 .1 .0) first (put′ .ensures .1 .0) (put′ .ensures .1 .1) (c .before .before .before .before .before .before .fill-from2 .ensures g (filling-without (d) (single′ .result) (grows′ .result) (omega (arith, if1′ .left)) (single′ .ensures) (grows′ .ensures .told g (s .args .tables) (s .args .t) (d .node) (omega (arith, if1′ .left)) (single′ .ensures)) (put′ .ensures .0) (with-part′ .ensures) (put′ .kept .1 .1 .1 .0) (put′ .kept .1 .1 .1 .1 .0) first (fill-from′ .kept .1 .1 .1 .1 .1 .1 .1 .1 .1 .0) (fill-from′ .kept .1 .1 .1 .1 .1 .1 .1 .1 .1 .1 .0) (fill-from′ .kept .1 .1 .1 .1 .1 .1 .1 .1 .1 .1 .1 .0)))
+    let first = fill-from′ .ensures g (filling-with (d) (single′ .result) (grows′ .result) (if1′ .left) (single′ .ensures) (grows′ .ensures .told g (s .args .tables) (s .args .t) (d .node) (if1′ .left) (single′ .ensures)) (put′ .ensures .0) (with-part′ .ensures) (put′ .kept .1 .1 .1 .0) (put′ .kept .1 .1 .1 .1 .0)) in
+    filled-step (d) (single′ .result) (grows′ .result) (if1′ .left) (single′ .ensures) (grows′ .ensures .told g (s .args .tables) (s .args .t) (d .node) (if1′ .left) (single′ .ensures)) (put′ .ensures .0) (with-part′ .ensures) (put′ .kept .1 .1 .1 .0) (put′ .kept .1 .1 .1 .1 .0) first (put′ .ensures .1 .0) (put′ .ensures .1 .1) (c .before .before .before .before .before .before .fill-from2 .ensures g (filling-without (d) (single′ .result) (grows′ .result) (if1′ .left) (single′ .ensures) (grows′ .ensures .told g (s .args .tables) (s .args .t) (d .node) (if1′ .left) (single′ .ensures)) (put′ .ensures .0) (with-part′ .ensures) (put′ .kept .1 .1 .1 .0) (put′ .kept .1 .1 .1 .1 .0) first (fill-from′ .kept .1 .1 .1 .1 .1 .1 .1 .1 .1 .0) (fill-from′ .kept .1 .1 .1 .1 .1 .1 .1 .1 .1 .1 .0) (fill-from′ .kept .1 .1 .1 .1 .1 .1 .1 .1 .1 .1 .1 .0)))
 
 pub +fill-from-spec : {M : Type 1} → statement M
 +fill-from-spec = close μ-fill-from λ t. fill-from-lts.spec (

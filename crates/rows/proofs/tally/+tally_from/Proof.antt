@@ -347,7 +347,7 @@ tally-from-tally-from-requires t c κs =
     let s = c .before .before .before .before .before .before .before .before .before .before .before in
     let if1′ = c .before .before .before .before .before .before .before .before .before .if1 in
     let single′ = c .before .before .before .before .before .before .before .before .single in
-    (omega (arith, if1′ .left), counting-with (s .pre .1) (single′ .result) (c .before .before .before .before .grows .result) (omega (arith, if1′ .left)) (single′ .ensures) (λ g d. c .before .before .before .before .grows .ensures .told g (s .args .tables) (s .args .t) d (omega (arith, if1′ .left)) (single′ .ensures)) (c .before .counted .ensures))
+    (omega (arith, if1′ .left), counting-with (s .pre .1) (single′ .result) (c .before .before .before .before .grows .result) (if1′ .left) (single′ .ensures) (λ g d. c .before .before .before .before .grows .ensures .told g (s .args .tables) (s .args .t) d (if1′ .left) (single′ .ensures)) (c .before .counted .ensures))
 
 tally-from-tally-from-requires-2 : (t : ℕ) → tally-from-lts.Need-tally-from-requires-2 (
   single-reads.Asked,
@@ -365,7 +365,7 @@ tally-from-tally-from-requires-2 t c κs =
     let s = c .before .before .before .before .before .before .before .before .before .before .before .before .before .before .before in
     let if1′ = c .before .before .before .before .before .before .before .before .before .before .before .before .before .if1 in
     let single′ = c .before .before .before .before .before .before .before .before .before .before .before .before .single in
-    (omega (arith, if1′ .left), counting-without (s .pre .1) (single′ .result) (c .before .before .before .before .before .before .before .before .grows .result) (omega (arith, if1′ .left)) (single′ .ensures) (λ g d. c .before .before .before .before .before .before .before .before .grows .ensures .told g (s .args .tables) (s .args .t) d (omega (arith, if1′ .left)) (single′ .ensures)) (c .before .before .before .before .before .counted .ensures) (c .before .before .before .tally-from .kept .1 .1 .1 .1 .1 .1 .1 .0) (c .before .before .before .tally-from .ensures))
+    (omega (arith, if1′ .left), counting-without (s .pre .1) (single′ .result) (c .before .before .before .before .before .before .before .before .grows .result) (if1′ .left) (single′ .ensures) (λ g d. c .before .before .before .before .before .before .before .before .grows .ensures .told g (s .args .tables) (s .args .t) d (if1′ .left) (single′ .ensures)) (c .before .before .before .before .before .counted .ensures) (c .before .before .before .tally-from .kept .1 .1 .1 .1 .1 .1 .1 .0) (c .before .before .before .tally-from .ensures))
 
 tally-from-same-length : (t : ℕ) → tally-from-lts.Need-same-length (
   single-reads.Asked,
@@ -400,7 +400,7 @@ tally-from-returns-3 t c =
     let single′ = c .before .before .before .before .before .before .before .before .before .before .before .before .before .before .before .single in
     let grows′ = c .before .before .before .before .before .before .before .before .before .before .before .grows in
     let if1′ = c .before .before .before .before .before .before .before .before .before .before .before .before .before .before .before .before .if1 in
-    λ g d. tallied-step (single′ .result) (grows′ .result) (s .args .counts .now) (omega (arith, if1′ .left)) (single′ .ensures) (grows′ .ensures .told g (s .args .tables) (s .args .t) d (omega (arith, if1′ .left)) (single′ .ensures)) (omega (arith, s .pre .1 .smaller, s .pre .1 .long, s .pre .1 .node .few, if1′ .left)) (c .before .before .before .before .before .before .before .before .counted .ensures) (c .before .before .before .before .before .before .tally-from .ensures g (node-with d (single′ .result) (omega (arith, if1′ .left)) (single′ .ensures) (grows′ .result) (grows′ .ensures .told g (s .args .tables) (s .args .t) d (omega (arith, if1′ .left)) (single′ .ensures)))) (c .before .before .tally-from2 .ensures g (node-without d (omega (arith, if1′ .left))))
+    λ g d. tallied-step (single′ .result) (grows′ .result) (s .args .counts .now) (if1′ .left) (single′ .ensures) (grows′ .ensures .told g (s .args .tables) (s .args .t) d (if1′ .left) (single′ .ensures)) (omega (arith, s .pre .1 .smaller, s .pre .1 .long, s .pre .1 .node .few, if1′ .left)) (c .before .before .before .before .before .before .before .before .counted .ensures) (c .before .before .before .before .before .before .tally-from .ensures g (node-with d (single′ .result) (if1′ .left) (single′ .ensures) (grows′ .result) (grows′ .ensures .told g (s .args .tables) (s .args .t) d (if1′ .left) (single′ .ensures)))) (c .before .before .tally-from2 .ensures g (node-without d (if1′ .left)))
 
 pub +tally-from-spec : {M : Type 1} → statement M
 +tally-from-spec = close μ-tally-from λ t. tally-from-lts.spec (
