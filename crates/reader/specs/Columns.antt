@@ -2,7 +2,7 @@
 use mathlib.Core.List.{List}
 use Prim.Native.Nat.{ℕ}
 use Rattle.rules.specs.Reading.{Read}
-use Rattle.reader.specs.declared.kinds.Progress.{Progress}
+use Rattle.fields.specs.declared.kinds.Progress.{Progress}
 use Rattle.reader.specs.Records.{Room, Spare, readOf}
 
 pub record Columns : Type 0 where

@@ -1,10 +1,3 @@
-pub mod Spans
-pub mod SpanLaws
-pub mod CutLaws
-pub mod NumberLaws
-pub mod ValueLaws
-pub mod KindLaws
-pub mod JudgeLaws
 pub mod Records
 pub mod Columns
 pub mod StoreLaws

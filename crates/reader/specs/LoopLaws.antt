@@ -16,13 +16,14 @@ use Rattle.rules.specs.declared.forms.Letter.{Letter}
 use Rattle.rules.specs.Limits.{maxBytes}
 use Rattle.rules.specs.Lines.{newline, lines}
 use Rattle.rules.specs.Reading.{Read, Reading, stage, values, lineForm, lineNumber, withRecord, withLineAs, withLine, stopped, ended, readFrom, unfit, reading}
-use Rattle.reader.specs.declared.kinds.Progress.{Progress}
+use Rattle.fields.specs.declared.kinds.Progress.{Progress}
 use Rattle.reader.specs.declared.reading.Held.{Held}
-use Rattle.reader.specs.Spans.{span}
-use Rattle.reader.specs.Records.{Recorded, Within, noLine, heldAs}
+use Rattle.fields.specs.Spans.{span}
+use Rattle.fields.specs.Recorded.{Recorded}
+use Rattle.reader.specs.Records.{Within, noLine, heldAs}
 use Rattle.reader.specs.Columns.{Columns, readIn, RoomIn, SpareIn}
 use Rattle.reader.specs.ReadLaws.{Ended, fit-is, line-ends, lines-none, lines-next, after-length, after-ended}
-use Rattle.reader.specs.JudgeLaws.{numberAs}
+use Rattle.fields.specs.JudgeLaws.{numberAs}
 use Rattle.reader.specs.StoreLaws.{Stored, spared-same, spared-on}
 
 -- ---- one line

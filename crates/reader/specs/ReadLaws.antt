@@ -13,9 +13,9 @@ use borrow.Author.Tests.{lt-ltb, le-ltb, eq-eqb, ltb-false, eqb-true, not-false}
 use Rattle.rules.specs.Limits.{maxBytes}
 use Rattle.rules.specs.Lines.{newline, cutAt, butLast, lines}
 use Rattle.rules.specs.Reading.{unfit}
-use Rattle.reader.specs.Spans.{span}
-use Rattle.reader.specs.SpanLaws.{rest-is}
-use Rattle.reader.specs.CutLaws.{cut-next, cut-some}
+use Rattle.fields.specs.Spans.{span}
+use Rattle.fields.specs.SpanLaws.{rest-is}
+use Rattle.fields.specs.CutLaws.{cut-next, cut-some}
 
 -- ---- 24
 pub unfit-long : (s : List ℕ) → maxBytes < length s → true ≡ unfit s

@@ -1,26 +1,12 @@
 -- What the reader's structs mean.
-use mathlib.Core.Path.{_≡_}
 use mathlib.Core.List.{List}
 use Prim.Native.Nat.{ℕ, _≤_}
-use lib.ListN.{length, getD, take, replicate}
-use Rattle.rules.specs.declared.forms.Kind.{Kind}
-use Rattle.rules.specs.declared.forms.Kind.the-variants.{Table}
+use lib.ListN.{length, take}
 use Rattle.rules.specs.Limits.{maxTables, maxMethods, maxEdgeLines}
 use Rattle.rules.specs.Answers.{Spared}
-use Rattle.rules.specs.Reading.{known, values, lineForm, Read, Reading, reading}
-use Rattle.reader.specs.declared.kinds.Progress.{Progress}
-use Rattle.reader.specs.declared.kinds.Judged.{Judged}
+use Rattle.rules.specs.Reading.{Read, Reading}
+use Rattle.fields.specs.declared.kinds.Progress.{Progress}
 use Rattle.reader.specs.declared.reading.Held.{Held}
-
--- a refused line
-abbrev pub badLine : ℕ → Judged
-badLine number = record { number = number; kind = Table; cells = replicate 4 0 }
-
--- kind and numbers of a good line
-pub record Recorded (line : List ℕ) (kind : Kind) (cells : List ℕ) : Type 0 where
-  pub numbers : ℕ
-  pub form : lineForm line ≡ known kind numbers
-  pub cells-are : (k : ℕ) → getD cells k 0 ≡ getD (values line) k 0
 
 -- the nine columns have room for all records of their kind
 pub record Room (rows scans left right divisors fixed perOuter perInner perResult : List ℕ) : Type 0 where

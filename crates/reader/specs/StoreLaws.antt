@@ -14,7 +14,7 @@ use Rattle.rules.specs.declared.forms.Kind.the-variants.{Table, Method, Edge, C
 use Rattle.rules.specs.Limits.{maxTables, maxMethods, maxEdgeLines}
 use Rattle.rules.specs.Answers.{Spared}
 use Rattle.rules.specs.Reading.{stage, excess, push, withRecord}
-use Rattle.reader.specs.declared.kinds.Progress.{Progress}
+use Rattle.fields.specs.declared.kinds.Progress.{Progress}
 use Rattle.reader.specs.Records.{Room, Within}
 use Rattle.reader.specs.Columns.{Columns, readIn, RoomIn, SpareIn}
 

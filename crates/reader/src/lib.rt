@@ -1,5 +1,2 @@
 // The text's reader: bytes to columns of records, or the first refusal of 21 to 25.
-pub mod kinds;
-pub mod lines;
-pub mod numbers;
 pub mod reading;

@@ -9,11 +9,11 @@ ghost use Rattle.rules.specs.Reading.{stage, excess, unfit, reading};
 ghost use Rattle.reader.specs.Records.{Room, Within, Spare, readingOf, noLine, heldAs};
 ghost use Rattle.reader.specs.Columns.{columns};
 ghost use Rattle.reader.specs.StoreLaws.{Stored};
-use super::kinds::Judged;
-use super::kinds::Progress;
-use super::kinds::judge;
-use super::kinds::stage_of;
-use super::lines::span_to;
+use fields::kinds::Judged;
+use fields::kinds::Progress;
+use fields::kinds::judge;
+use fields::kinds::stage_of;
+use fields::lines::span_to;
 use rules::Verdict;
 use rules::forms::Kind;
 

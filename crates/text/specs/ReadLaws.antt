@@ -16,7 +16,7 @@ use Rattle.rules.specs.laws.Writing.{refusal-room}
 use Rattle.rules.specs.laws.Text.{GoodText, good-none, unread-verdict, unplanned-verdict}
 use Rattle.query.specs.Lists.{queryOf}
 use Rattle.memo.specs.LayoutLaws.{front}
-use Rattle.reader.specs.declared.kinds.Progress.{Progress}
+use Rattle.fields.specs.declared.kinds.Progress.{Progress}
 use Rattle.reader.specs.Records.{readOf}
 use Rattle.writer.specs.Put.{Put}
 use Rattle.text.specs.Composing.{Composed}

@@ -2,7 +2,7 @@ use mathlib.Core.Path.{sym}
 use native.Mathlib.Omega.{arith}
 use lib.ListN.{length}
 use lib.Seq.{length-take-le}
-use Rattle.reader.specs.JudgeLaws.{good-fits}
+use Rattle.fields.specs.JudgeLaws.{good-fits}
 use Rattle.reader.specs.Columns.{columns}
 use Rattle.reader.specs.LoopLaws.{Reads, read-unfit, reads-start, read-refused, reads-next, read-end, line-in, place-small, rest-falls}
 use Rattle.reader.proofs.reading.read.Statement.{statement}
