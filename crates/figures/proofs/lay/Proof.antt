@@ -36,12 +36,18 @@ check-requires c κs = search needs
 returns : tie.Need-returns
 returns c = search needs
 
+tally-requires : tie.Need-tally-requires
+tally-requires c κs =
+    let e = ap (λ (x : Verdict). x .number) (sym (c .before .before .check .ensures)) ∙ c .if1 .left in
+    sound-of _ _ _ _ _ _ e .graph
+
+slice-aggregate-lay-out : tie.Need-slice-aggregate-lay-out
+slice-aggregate-lay-out c = sym (c .before .tally .ensures .1)
+
 lay-out-requires : tie.Need-lay-out-requires
 lay-out-requires c κs =
-    let l = c .before .before .before .before .before .before in
-    let v = l .before .before .check in
-    let e = ap (λ (x : Verdict). x .number) (sym (v .ensures)) ∙ l .if1 .left in
-    (sound-of _ _ _ _ _ _ e .graph, one-length _ _ _ _ _ _ e)
+    let e = ap (λ (x : Verdict). x .number) (sym (c .before .before .before .before .before .before .before .before .before .before .check .ensures)) ∙ c .before .before .before .before .before .before .before .before .if1 .left in
+    (sound-of _ _ _ _ _ _ e .graph, (one-length _ _ _ _ _ _ e, c .before .before .before .before .before .before .before .tally .ensures .0))
 
 print-decimal-requires : tie.Need-print-decimal-requires
 print-decimal-requires c κs = search needs
@@ -105,6 +111,8 @@ lay-spec =
     slice-aggregate-check-5
     check-requires
     returns
+    tally-requires
+    slice-aggregate-lay-out
     lay-out-requires
     print-decimal-requires
     slice-aggregate-put

@@ -35,10 +35,19 @@ returns c =
     let i = input (c .before .before .before .before .before .before .before .before .before .before .before .before .before .before .before .before .before .before) in
     lay-refused i (c .before .before .check .ensures ∙ checks-are i) (c .if1 .taken)
 
+tally-requires : tie.Need-tally-requires
+tally-requires c κs =
+    let i = input (c .before .before .before .before .before .before .before .before .before .before .before .before .before .before .before .before .before .before) in
+    lay-ready i (sym (ap (λ (x : Verdict). x .number) (c .before .before .check .ensures ∙ checks-are i)) ∙ c .if1 .left) .0
+
+slice-aggregate-lay-out : tie.Need-slice-aggregate-lay-out
+slice-aggregate-lay-out c = sym (c .before .tally .ensures .1)
+
 lay-out-requires : tie.Need-lay-out-requires
 lay-out-requires c κs =
-    let i = input (c .before .before .before .before .before .before .before .before .before .before .before .before .before .before .before .before .before .before .before .before .before .before .before .before) in
-    lay-ready i (sym (ap (λ (x : Verdict). x .number) (c .before .before .before .before .before .before .before .before .check .ensures ∙ checks-are i)) ∙ c .before .before .before .before .before .before .if1 .left)
+    let i = input (c .before .before .before .before .before .before .before .before .before .before .before .before .before .before .before .before .before .before .before .before .before .before .before .before .before .before) in
+    let r = lay-ready i (sym (ap (λ (x : Verdict). x .number) (c .before .before .before .before .before .before .before .before .before .before .check .ensures ∙ checks-are i)) ∙ c .before .before .before .before .before .before .before .before .if1 .left) in
+    (r .0, (r .1, c .before .before .before .before .before .before .before .tally .ensures .0))
 
 same-length : tie.Need-same-length
 same-length c = laid-lengths (c .before .before .before .before .before .before .before .before .before .before .before .before .lay-out .ensures) .sets
@@ -60,8 +69,8 @@ same-length-6 c = laid-lengths (c .before .before .before .before .before .befor
 
 returns-2 : tie.Need-returns-2
 returns-2 c =
-    let i = input (c .before .before .before .before .before .before .before .before .before .before .before .before .before .before .before .before .before .before .before .before .before .before .before .before .before .before .before .before .before .before .before .before .before .before .before .before .before) in
-    lay-laid i (c .before .before .before .before .before .before .before .before .before .before .before .before .before .before .before .before .before .before .before .before .before .check .ensures ∙ checks-are i) (c .before .before .before .before .before .before .before .before .before .before .before .before .before .before .before .before .before .before .before .if1 .left) (c .before .before .before .before .before .before .before .before .before .before .before .before .lay-out .ensures)
+    let i = input (c .before .before .before .before .before .before .before .before .before .before .before .before .before .before .before .before .before .before .before .before .before .before .before .before .before .before .before .before .before .before .before .before .before .before .before .before .before .before .before) in
+    lay-laid i (c .before .before .before .before .before .before .before .before .before .before .before .before .before .before .before .before .before .before .before .before .before .before .before .check .ensures ∙ checks-are i) (c .before .before .before .before .before .before .before .before .before .before .before .before .before .before .before .before .before .before .before .before .before .if1 .left) (c .before .before .before .before .before .before .before .before .before .before .before .before .lay-out .ensures)
 
 pub lay-columns-spec : {M : Type 1} → statement M
 lay-columns-spec =
@@ -74,6 +83,8 @@ lay-columns-spec =
     slice-aggregate-check-5
     check-requires
     returns
+    tally-requires
+    slice-aggregate-lay-out
     lay-out-requires
     same-length
     same-length-2
