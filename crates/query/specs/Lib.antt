@@ -2,4 +2,3 @@
 pub mod Lists
 pub mod EdgeLaws
 pub mod ConnectedLaws
-pub mod EstimateLaws

@@ -27,7 +27,7 @@ fn grow(s: u64, part: u64, a: u64, b: u64) -> u64
 }
 
 // A connected part of `s`, grown along each edge once; it stays as it was only where no edge leads on.
-pub fn reach(rows: &[u64], left: &[u64], right: &[u64], divisors: &[u64], s: u64, part: u64) -> u64
+fn reach(rows: &[u64], left: &[u64], right: &[u64], divisors: &[u64], s: u64, part: u64) -> u64
     requires { ⌜ GoodGraph (graphOf (now rows) (now left) (now right) (now divisors)) ⌝ }
     requires { ⌜ Part (graphOf (now rows) (now left) (now right) (now divisors)) s part ⌝ }
     ensures { λ r. ⌜ Grown (graphOf (now (rows .entry)) (now (left .entry)) (now (right .entry)) (now (divisors .entry))) s part (betweenIn (now (left .entry)) (now (right .entry)) part (s - part)) r ⌝ }

@@ -14,7 +14,7 @@ use lib.Pow.{pow-mono}
 use lib.Seq.{getD-set-same, getD-set-other}
 use borrow.Author.Tests.{eq-eqb, ne-eqb}
 use Rattle.rules.specs.Limits.{maxTables, maxRows, maxEstimate}
-use Rattle.rules.specs.Sets.{holds, Splits, single, Lowest}
+use Rattle.rules.specs.Sets.{has, holds, Splits, single, Lowest}
 use Rattle.rules.specs.Query.{Graph, tableCount, edgeCount, at, IsTable, Joins}
 use Rattle.rules.specs.Checked.{GoodGraph}
 use Rattle.rules.specs.Estimate.{joinsAt, divided, byEdges, byLower, withTable, running, estimate}
@@ -22,7 +22,6 @@ use Rattle.rules.specs.laws.Bools.{true-or-false}
 use Rattle.rules.specs.laws.Sets.{bit-le, holds-bit, holds-none, holds-pos, holds-lt, lt-of-holds, holds-sum, holds-single, holds-single-only, holds-out, holds-minus, union-of}
 use Rattle.rules.specs.laws.Refusals.{joins-true, true-joins}
 use Rattle.rules.specs.laws.Estimate.{running-le}
-use Rattle.query.specs.EstimateLaws.{running-step}
 use Rattle.rows.specs.WalkLaws.{apart-tables, below-with}
 use Rattle.rows.specs.Near.{Node}
 use Rattle.rows.specs.NearLaws.{both-of, both-in, in-right}
@@ -264,6 +263,15 @@ running-on g S k (suc m) h l = go (ℕ-discrete k (suc m)) (λ i. running-on g S
     go : Dec (k ≡ suc m) → (k ≤ m → running g S m ≡ running g S k) → cond (eqb (holds S (suc m)) 1) (withTable g S (suc m) (running g S m)) (running g S m) ≡ running g S k
     go (yes e) ih = ap (running g S) (sym e)
     go (no e) ih = rw (ne-eqb (holds S (suc m)) 1 (λ i. omega (arith, holds-lt k S (suc m) h i))) (ih (omega arith))
+
+-- counted from 1 as the walk does
+running-step : (g : Graph) (s t : ℕ) → 1 ≤ t → running g s (t + 1 - 1) ≡ cond (has s t) (withTable g s t (running g s (t - 1))) (running g s (t - 1))
+unfolding running
+running-step g s zero l = absurd (omega arith)
+running-step g s (suc k) l =
+    let x : suc k + 1 - 1 ≡ suc k = omega arith in
+    let y : suc k - 1 ≡ k = omega arith in
+    rw (x, y)
 
 module _ {g : Graph} {near parts : List ℕ} {n t chosen around e : ℕ} {joined : Bool} (d : Node g near n t chosen around joined) (p : Valued g parts t chosen e) (l : t ≤ n) where
   abbrev linked : ℕ

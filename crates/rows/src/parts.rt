@@ -1,15 +1,26 @@
 // What each table brings to an estimate, in one array: the cell of t and t has the rows of t, that of t and u the divisor of their edge.
 ghost use mathlib.Core.Path.{_≡_};
-ghost use Prim.Native.Nat.{_+_, _-_, _*_, _≤_, min};
+ghost use Prim.Native.Nat.{_+_, _-_, _*_, _≤_, min, max};
 ghost use lib.ListN.{length, getD};
 ghost use Rattle.rules.specs.Limits.{maxTables, maxRows, maxEstimate};
 ghost use Rattle.rules.specs.Query.{graphOf, edgeCount};
 ghost use Rattle.rules.specs.Checked.{GoodGraph};
 ghost use Rattle.rows.specs.Parts.{cellOf, Own, Parts, Divides, byParts};
-use query::estimate::MAX_ESTIMATE;
-use query::estimate::raised;
 use sets::lowest_table;
 use sets::single;
+
+// "Then cut to 1,000,000,000,000 if larger."
+const MAX_ESTIMATE: u64 = 1_000_000_000_000;
+
+// At least 1: for rows, where 0 counts as 1, and for quotients.
+fn raised(n: u64) -> u64
+    ensures { λ r. ⌜ r ≡ max 1 n ⌝ }
+{
+    if n == 0 {
+        return 1;
+    }
+    n
+}
 
 // The cell of the tables `t` and `u`.
 fn cell(t: u64, u: u64) -> usize
