@@ -37,10 +37,10 @@ use drawn::memory::set_number;
 use drawn::memory::sum;
 use planner::Answer;
 use planner::plan;
+use played::play::play;
 use std::num::wrapping_sub_u64;
 use trees::enumerate::put_rows;
 use trees::enumerate::put_skips;
-use trees::play::play;
 ghost use Prim.Native.Nat.{_≤_};
 ghost use lib.ListN.{length};
 

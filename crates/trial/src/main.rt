@@ -1,5 +1,5 @@
-// Generated queries, planned under several crews, and held cell by cell to the enumeration of `trees`, which shares no code with the
-// planner. Prints counts only.
+// Generated queries, planned under several crews, and held cell by cell to the enumeration of `trees` and `played`, which shares no
+// code with the planner. Prints counts only.
 mod hold;
 
 use drawn::memory::TALLY;

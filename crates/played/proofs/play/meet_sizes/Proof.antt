@@ -2,8 +2,8 @@ use mathlib.Core.Path.{_≡_}
 use lib.ListN.{length}
 use Prim.Native.Nat.{_-_}
 use borrow.Author.Needs.{needs}
-use Rattle.trees.proofs.play.meet_sizes.Statement.{statement}
-use Rattle.trees.proofs.play.meet_sizes.Tie as tie
+use Rattle.played.proofs.play.meet_sizes.Statement.{statement}
+use Rattle.played.proofs.play.meet_sizes.Tie as tie
 
 abbrev Inv-loop : tie.InvT-loop
 Inv-loop m₀ small large first last rows end i₀ m i = length m ≡ length m₀

@@ -2,8 +2,8 @@ use mathlib.Core.Path.{_≡_}
 use lib.ListN.{length}
 use Prim.Native.Nat.{_-_}
 use borrow.Author.Needs.{needs}
-use Rattle.trees.proofs.play.meet_row.Statement.{statement}
-use Rattle.trees.proofs.play.meet_row.Tie as tie
+use Rattle.played.proofs.play.meet_row.Statement.{statement}
+use Rattle.played.proofs.play.meet_row.Tie as tie
 
 abbrev Inv-loop : tie.InvT-loop
 Inv-loop m₀ i from end d rows driving j₀ m j = length m ≡ length m₀

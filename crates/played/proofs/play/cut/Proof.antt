@@ -1,7 +1,7 @@
 use Prim.Native.Nat.{_-_, _≤_}
 use borrow.Author.Needs.{needs}
-use Rattle.trees.proofs.play.cut.Statement.{statement}
-use Rattle.trees.proofs.play.cut.Tie as tie
+use Rattle.played.proofs.play.cut.Statement.{statement}
+use Rattle.played.proofs.play.cut.Tie as tie
 
 abbrev Inv-loop : tie.InvT-loop
 Inv-loop x total workers w₀ w = 0 ≤ w

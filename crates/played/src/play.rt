@@ -1,10 +1,4 @@
 // The turns, played on lists of all joinable pairs of a size with their workers.
-use super::enumerate::priced;
-use super::enumerate::touch;
-use super::flags::Group;
-use super::flags::group_of;
-use super::flags::overlap;
-use super::flags::power;
 use drawn::memory::CANDIDATES;
 use drawn::memory::COSTS;
 use drawn::memory::COUNTS;
@@ -40,6 +34,12 @@ use drawn::memory::set_number;
 use drawn::memory::sum;
 use drawn::memory::times;
 use std::num::wrapping_sub_u64;
+use trees::enumerate::priced;
+use trees::enumerate::touch;
+use trees::flags::Group;
+use trees::flags::group_of;
+use trees::flags::overlap;
+use trees::flags::power;
 
 // Entries of the log that are written at most.
 const LOG: u64 = 2048;

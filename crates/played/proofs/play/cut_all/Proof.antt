@@ -2,8 +2,8 @@ use mathlib.Core.Path.{_≡_}
 use lib.ListN.{length}
 use Prim.Native.Nat.{_-_}
 use borrow.Author.Needs.{needs}
-use Rattle.trees.proofs.play.cut_all.Statement.{statement}
-use Rattle.trees.proofs.play.cut_all.Tie as tie
+use Rattle.played.proofs.play.cut_all.Statement.{statement}
+use Rattle.played.proofs.play.cut_all.Tie as tie
 
 abbrev Inv-loop : tie.InvT-loop
 Inv-loop m₀ total workers listed e₀ m e = length m ≡ length m₀

@@ -1,7 +1,7 @@
 use Prim.Native.Nat.{_-_, _≤_}
 use borrow.Author.Needs.{needs}
-use Rattle.trees.proofs.play.find.Statement.{statement}
-use Rattle.trees.proofs.play.find.Tie as tie
+use Rattle.played.proofs.play.find.Statement.{statement}
+use Rattle.played.proofs.play.find.Tie as tie
 
 abbrev Inv-loop : tie.InvT-loop
 Inv-loop m w from end e₀ e = 0 ≤ e
