@@ -6,8 +6,10 @@
 # make soak         the same for long: TEXTS, CALLS and SEED may be given
 # make faults       faults put into the reference, each of which the comparison must find
 # make fuzz         libFuzzer over the same, SECONDS long (needs clang)
+# make counts       instructions of one plan, the library's and C's (needs valgrind)
+# make plot         docs/performance.svg from TABLE, a file of what `make bench` printed (needs gnuplot)
 # make bench        the library beside native planners in C (bench/README.md); ROW="clique 12" for those rows alone
-.PHONY: run test lib harness engine c-tests examples compare soak faults fuzz bench
+.PHONY: run test lib harness engine c-tests examples compare soak faults fuzz bench counts plot
 
 CFLAGS = -std=c11 -O2 -Wall -Wextra -Werror -Iinclude
 LIBRARY = target/staticlib/libbutirampol.a
@@ -82,3 +84,9 @@ target/bench: bench/bench.c bench/native.c bench/native.h tests/c/harness.h harn
 
 bench: target/bench
 	@target/bench "$(ROW)"
+
+counts: target/bench
+	@bench/counts
+
+plot:
+	@bench/plot "$(TABLE)" docs/performance.svg

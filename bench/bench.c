@@ -4,6 +4,7 @@
  *
  *     bench          the whole table
  *     bench ROW      only rows whose name begins so, as "clique 12"
+ *     bench -1 ROW   no table: each such query planned once by either, with four methods and one worker, for a counter of instructions
  */
 #include <inttypes.h>
 #include <stdio.h>
@@ -131,7 +132,6 @@ static void plan_here(const job *j)
                  methods, MAX_SETS, skips, MAX_CELLS, skips, 0, skips, 0, skips, 0, skips, 0, answer, NUMBERS);
 }
 
-
 static void lay_here(const job *j)
 {
     const query *q = j->q;
@@ -146,7 +146,7 @@ static void lay_native(const job *j)
     lay_out(j->q, &native);
 }
 
-static void with_skips(const job *j)
+__attribute__((noinline)) static void with_skips(const job *j)
 {
     lay_out(j->q, &native);
     skip_pairs(j->q, &native);
@@ -289,11 +289,11 @@ static void lay_row(const char *name, const query *q)
 }
 
 /* each query of the benchmark whose name begins so */
-static void each(const char *only, int last_method, void (*show)(const char *, const query *))
+static void each(const char *only, int first_method, int last_method, void (*show)(const char *, const query *))
 {
     for (size_t g = 0; g < sizeof graphs / sizeof graphs[0]; g++)
         for (int n = 8; n <= MAX_TABLES; n += 2)
-            for (int m = 1; m <= last_method; m += 3) {
+            for (int m = first_method; m <= last_method; m += 3) {
                 char name[32];
                 query q;
 
@@ -311,17 +311,30 @@ static void plan_rows(const char *name, const query *q)
     row(name, q, 8);
 }
 
+static void once(const char *name, const query *q)
+{
+    job j = {q, 1};
+
+    plan_here(&j);
+    with_skips(&j);
+    printf("%s: %" PRIu64 " pairs\n", name, answer[5]);
+}
+
 int main(int argc, char **argv)
 {
     const char *only = argc > 1 ? argv[1] : "";
 
+    if (argc > 2 && strcmp(only, "-1") == 0) {
+        each(argv[2], MAX_METHODS, MAX_METHODS, once);
+        return 0;
+    }
     printf("Whole planning\n\n");
     printf("| query | methods | workers | pairs | to skip vectors | to generate and test | to csg-cmp | C with skips, µs | its ns a pair |\n");
     printf("|---|---|---|---|---|---|---|---|---|\n");
-    each(only, MAX_METHODS, plan_rows);
+    each(only, 1, MAX_METHODS, plan_rows);
     printf("\nLaying out alone\n\n");
     printf("| query | rows | to C | C, µs |\n");
     printf("|---|---|---|---|\n");
-    each(only, 1, lay_row);
+    each(only, 1, 1, lay_row);
     return 0;
 }
