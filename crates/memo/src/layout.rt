@@ -6,7 +6,7 @@ ghost use Rattle.rules.specs.Query.{graphOf};
 ghost use Rattle.rules.specs.Checked.{GoodGraph};
 ghost use Rattle.rules.specs.Rows.{memo};
 ghost use Rattle.rules.specs.Skips.{skips};
-ghost use Rattle.rows.specs.Near.{Tally};
+ghost use Rattle.rows.specs.Tally.{Tally};
 ghost use Rattle.skips.specs.Vectors.{written};
 ghost use Rattle.memo.specs.Layout.{lent, OneLength, Room, laid, answered, LaidOut};
 use super::columns::lay_zeros;

@@ -2,9 +2,9 @@ use mathlib.Core.Path.{_∙_}
 use Prim.Native.Nat.{ℕ, _+_, _-_, _<_}
 use native.Mathlib.Omega.{arith}
 use lib.ListN.{length-set}
-use Rattle.rows.specs.WalkLaws.{all-fits, rest-is, rest-some, rest-apart, rest-fits, with-fits}
-use Rattle.rows.specs.NodeLaws.{found-none, found-last}
-use Rattle.rows.specs.PartLaws.{linked-divides, value-fits}
+use Rattle.graph.specs.ApartLaws.{all-fits, rest-is, rest-some, rest-apart, rest-fits, with-fits}
+use Rattle.graph.specs.PartLaws.{linked-divides, value-fits}
+use Rattle.rows.specs.FoundLaws.{found-none, found-last}
 use Rattle.rows.specs.FillLaws.{filled-none, fits-row, filling-with, filling-without, filled-step}
 use borrow.Fn.Kinds.{In}
 use borrow.Fn.PlainCycle.{Measures, is, falls, and}
@@ -12,9 +12,9 @@ use Rattle.rows.proofs.fill.fill_from.Reads as fill-from
 use Rattle.rows.proofs.fill.fill_from.Kinds as fill-from-kinds
 use Rattle.rows.proofs.fill.+fill_from.Lts-fill_from as fill-from-lts
 use Rattle.sets.proofs.single.Reads as single-reads
-use Rattle.rows.proofs.near.stuck.Reads as stuck-reads
-use Rattle.rows.proofs.near.grows.Reads as grows-reads
-use Rattle.rows.proofs.parts.with_part.Reads as with-part-reads
+use Rattle.graph.proofs.near.stuck.Reads as stuck-reads
+use Rattle.graph.proofs.near.grows.Reads as grows-reads
+use Rattle.graph.proofs.parts.with_part.Reads as with-part-reads
 use Rattle.rows.proofs.fill.put.Reads as put-reads
 use Rattle.rows.proofs.fill.+fill_from.{statement}
 use Rattle.rows.proofs.fill.+fill_from.Tie.{close}

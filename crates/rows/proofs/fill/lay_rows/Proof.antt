@@ -3,7 +3,7 @@ use Prim.Native.Nat.{ℕ, _+_, _-_, _*_, _≤_}
 use native.Mathlib.Omega.{arith}
 use lib.ListN.{length, getD, length-set, replicate}
 use Rattle.rules.specs.Query.{graphOf}
-use Rattle.rows.specs.Walk.{upTo}
+use Rattle.rows.specs.Sizes.{upTo}
 use Rattle.rows.specs.WalkLaws.{upTo-none, length-more, rows-fit}
 use Rattle.rows.specs.FillLaws.{starts-none, starts-more, filling-root, filled-root}
 use Rattle.rows.proofs.fill.lay_rows.Statement.{statement}
