@@ -10,7 +10,7 @@ ghost use Rattle.rows.specs.Tally.{Tally};
 ghost use Rattle.skips.specs.Vectors.{written};
 ghost use Rattle.memo.specs.Layout.{lent, OneLength, Room, laid, answered, LaidOut};
 use super::columns::lay_zeros;
-use rows::fill::lay_rows;
+use fill::lay_rows;
 use rows::tally::all_cells;
 use rows::tally::all_rows;
 use skips::fill_vectors;

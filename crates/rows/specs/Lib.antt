@@ -1,8 +1,6 @@
--- How the memo's rows are walked, and the laws that the proofs cite.
+-- How the memo's rows are walked and counted, and the laws that the proofs cite.
 pub mod Sizes
 pub mod WalkLaws
 pub mod Tally
 pub mod FoundLaws
 pub mod TallyLaws
-pub mod Fill
-pub mod FillLaws

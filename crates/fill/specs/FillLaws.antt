@@ -25,12 +25,12 @@ use Rattle.graph.specs.Near.{Near}
 use Rattle.graph.specs.NodeLaws.{node-with, node-without}
 use Rattle.graph.specs.Parts.{cellOf, Parts, byParts}
 use Rattle.graph.specs.PartLaws.{valued-with, valued-without, with-estimate, valued-root}
 use Rattle.rows.specs.Sizes.{upTo}
 use Rattle.rows.specs.Tally.{found, here, Tallied}
-use Rattle.rows.specs.Fill.{Ahead, Kept, Placed, Laid, Filled, Filling}
+use Rattle.fill.specs.Fill.{Ahead, Kept, Placed, Laid, Filled, Filling}
 use Rattle.rows.specs.WalkLaws.{upTo-none, upTo-more, upTo-end, length-more}
 use Rattle.rows.specs.FoundLaws.{found-step, found-first, count-here, tallied-none, tallied-step}
 use Rattle.rows.specs.TallyLaws.{root}
 
 -- ---- places
 append-assoc : (a b c : List ℕ) → (a ++ b) ++ c ≡ a ++ (b ++ c)

@@ -1,8 +1,8 @@
 use mathlib.Core.Path.{refl}
 use native.Mathlib.Omega.{arith}
 use lib.ListN.{length-set}
-use Rattle.rows.proofs.fill.put.Statement.{statement}
-use Rattle.rows.proofs.fill.put.Tie as tie
+use Rattle.fill.proofs.put.Statement.{statement}
+use Rattle.fill.proofs.put.Tie as tie
 
 mul-out : tie.Need-mul-out
 mul-out c = omega (arith, c .before .pre (c .if1 .taken) .0)

@@ -4,20 +4,20 @@ use native.Mathlib.Omega.{arith}
 use lib.ListN.{length-set}
 use Rattle.graph.specs.ApartLaws.{all-fits, rest-is, rest-some, rest-apart, rest-fits, with-fits}
 use Rattle.graph.specs.PartLaws.{linked-divides, value-fits}
 use Rattle.rows.specs.FoundLaws.{found-none, found-last}
-use Rattle.rows.specs.FillLaws.{filled-none, fits-row, filling-with, filling-without, filled-step}
+use Rattle.fill.specs.FillLaws.{filled-none, fits-row, filling-with, filling-without, filled-step}
 use borrow.Fn.Kinds.{In}
 use borrow.Fn.PlainCycle.{Measures, is, falls, and}
-use Rattle.rows.proofs.fill.fill_from.Reads as fill-from
-use Rattle.rows.proofs.fill.fill_from.Kinds as fill-from-kinds
-use Rattle.rows.proofs.fill.+fill_from.Lts-fill_from as fill-from-lts
+use Rattle.fill.proofs.fill_from.Reads as fill-from
+use Rattle.fill.proofs.fill_from.Kinds as fill-from-kinds
+use Rattle.fill.proofs.+fill_from.Lts-fill_from as fill-from-lts
 use Rattle.sets.proofs.single.Reads as single-reads
 use Rattle.graph.proofs.near.stuck.Reads as stuck-reads
 use Rattle.graph.proofs.near.grows.Reads as grows-reads
 use Rattle.graph.proofs.parts.with_part.Reads as with-part-reads
-use Rattle.rows.proofs.fill.put.Reads as put-reads
-use Rattle.rows.proofs.fill.+fill_from.{statement}
-use Rattle.rows.proofs.fill.+fill_from.Tie.{close}
+use Rattle.fill.proofs.put.Reads as put-reads
+use Rattle.fill.proofs.+fill_from.{statement}
+use Rattle.fill.proofs.+fill_from.Tie.{close}
 
 abbrev μ-fill-from : Measures 5 fill-from-kinds.ps ℕ
 μ-fill-from κs a = a .1 .1 .0 + 1 - a .1 .1 .1 .0

@@ -9,14 +9,14 @@ ghost use Rattle.rules.specs.Query.{Graph, graphOf};
 ghost use Rattle.rules.specs.Checked.{GoodGraph};
 ghost use Rattle.rules.specs.Estimate.{estimate};
 ghost use Rattle.rules.specs.Rows.{memo};
 ghost use Rattle.rows.specs.Tally.{Tally};
-ghost use Rattle.rows.specs.Fill.{Filling, Filled};
+ghost use Rattle.fill.specs.Fill.{Filling, Filled};
 use graph::near::grows;
 use graph::near::neighbours;
 use graph::near::stuck;
 use graph::parts::table_parts;
 use graph::parts::with_part;
-use super::tally::SIZES;
+use rows::tally::SIZES;
 use sets::single;
 
 // Writes a set and its estimate where it is a row; the place after it.

@@ -3,11 +3,11 @@ use Prim.Native.Nat.{ℕ, _+_, _-_, _*_, _≤_}
 use native.Mathlib.Omega.{arith}
 use lib.ListN.{length, getD, length-set, replicate}
 use Rattle.rules.specs.Query.{graphOf}
 use Rattle.rows.specs.Sizes.{upTo}
 use Rattle.rows.specs.WalkLaws.{upTo-none, length-more, rows-fit}
-use Rattle.rows.specs.FillLaws.{starts-none, starts-more, filling-root, filled-root}
-use Rattle.rows.proofs.fill.lay_rows.Statement.{statement}
-use Rattle.rows.proofs.fill.lay_rows.Tie as tie
+use Rattle.fill.specs.FillLaws.{starts-none, starts-more, filling-root, filled-root}
+use Rattle.fill.proofs.lay_rows.Statement.{statement}
+use Rattle.fill.proofs.lay_rows.Tie as tie
 
 abbrev Inv-loop : tie.InvT-loop
 Inv-loop rows left right divisors counts out estimates near parts starts₀ at₀ k₀ k-end starts at k =
