@@ -10,7 +10,7 @@ use Rattle.rules.specs.Rows.{memo}
 use Rattle.rules.specs.Skips.{vectors, skips}
 use Rattle.rules.specs.Refusals.{Memory}
 use Rattle.memo.specs.declared.layout.Laid.{Laid}
-use Rattle.rows.specs.Walk.{upTo}
+use Rattle.rows.specs.Sizes.{upTo}
 use Rattle.skips.specs.Vectors.{written}
 
 -- f 0, f 1, .., n numbers

@@ -15,9 +15,9 @@ use Rattle.rules.specs.Rows.{rowsOf, memo}
 use Rattle.rules.specs.Skips.{vectorsFrom, vectors, skips}
 use Rattle.rules.specs.Refusals.{Input, refuse, firstOf, rooms, groups, checksOf}
 use Rattle.rules.specs.laws.Refusals.{AllAre, AllSame, same-groups}
-use Rattle.rows.specs.Walk.{upTo}
-use Rattle.rules.specs.laws.Lists.{row-split}
+use Rattle.rows.specs.Sizes.{upTo}
 use Rattle.rows.specs.WalkLaws.{wrote-both, upTo-more, length-more}
+use Rattle.rules.specs.laws.Lists.{row-split}
 use Rattle.skips.specs.SizeRows.{SizeRows}
 use Rattle.skips.specs.Vectors.{written}
 use Rattle.memo.specs.FindLaws.{rows-sized}

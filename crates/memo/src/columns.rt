@@ -4,7 +4,7 @@ ghost use Prim.Native.Nat.{_+_, _≤_};
 ghost use lib.ListN.{length, replicate};
 ghost use Rattle.rules.specs.Query.{graphOf};
 ghost use Rattle.rules.specs.Checked.{GoodGraph};
-ghost use Rattle.rows.specs.Near.{Tally};
+ghost use Rattle.rows.specs.Tally.{Tally};
 ghost use Rattle.skips.specs.Vectors.{written};
 ghost use Rattle.memo.specs.Layout.{starts, cellStarts};
 

@@ -19,7 +19,7 @@ use Rattle.rules.specs.Candidates.{Candidate, withRow, across, within, driven, 
 use Rattle.rules.specs.Shares.{numbered, met}
 use Rattle.rules.specs.laws.Bools.{true-or-false}
 use Rattle.rules.specs.laws.Candidates.{numbered-length}
-use Rattle.rows.specs.Walk.{upTo}
+use Rattle.rows.specs.Sizes.{upTo}
 use Rattle.rows.specs.WalkLaws.{length-more, rows-fit, rows-walk, walk-few}
 use Rattle.shares.specs.Shares.{few}
 use Rattle.pairs.specs.Places.{startOf, firstRow, endRow, rowsAhead, sizesAhead, aheadOf, candidateAt, noCandidate}

@@ -12,7 +12,7 @@ use Rattle.rules.specs.Rows.{rowsOf, memo}
 use Rattle.rules.specs.Skips.{skips}
 use Rattle.rules.specs.Shares.{Numbered, met}
 use Rattle.rules.specs.laws.Complete.{mine}
-use Rattle.rows.specs.Walk.{upTo}
+use Rattle.rows.specs.Sizes.{upTo}
 use Rattle.memo.specs.Layout.{cellsTo}
 use Rattle.shares.specs.declared.places.Place.{Place}
 use Rattle.shares.specs.declared.Share.{Share}

@@ -1,11 +1,6 @@
--- How the memo's rows are walked, and the laws that the proofs cite.
-pub mod Walk
+-- How the memo's rows are walked and counted, and the laws that the proofs cite.
+pub mod Sizes
 pub mod WalkLaws
-pub mod Near
-pub mod NearLaws
-pub mod NodeLaws
+pub mod Tally
+pub mod FoundLaws
 pub mod TallyLaws
-pub mod Parts
-pub mod PartLaws
-pub mod Fill
-pub mod FillLaws

@@ -1,6 +1,3 @@
-// The memo's rows: how many there are of each size, and writing their sets and estimates in memo order.
+// How many rows of each size the memo has, and how many rows and skip cells in all.
 // A walk goes through the tables upwards; each table is first taken into the chosen set, then left out of it.
-pub mod fill;
-pub mod near;
-pub mod parts;
 pub mod tally;

@@ -7,10 +7,11 @@ ghost use Rattle.rules.specs.Query.{Graph, graphOf};
 ghost use Rattle.rules.specs.Checked.{GoodGraph};
 ghost use Rattle.rules.specs.Rows.{memo};
 ghost use Rattle.rules.specs.Skips.{skips};
-ghost use Rattle.rows.specs.Near.{Node, Tallied, Counting, Tally};
-use super::near::grows;
-use super::near::neighbours;
-use super::near::stuck;
+ghost use Rattle.graph.specs.Node.{Node};
+ghost use Rattle.rows.specs.Tally.{Tallied, Counting, Tally};
+use graph::near::grows;
+use graph::near::neighbours;
+use graph::near::stuck;
 use sets::single;
 
 // Room for a number of each size: sizes 0 to N, of at most 16 tables.

@@ -1,7 +1,7 @@
 // The turns in a row, size after size.
 ghost use Rattle.rules.specs.Query.{graphOf};
 ghost use Rattle.query.specs.Lists.{queryOf};
-ghost use Rattle.rows.specs.Near.{Tally};
+ghost use Rattle.rows.specs.Tally.{Tally};
 ghost use Rattle.turns.specs.Standing.{columns};
 ghost use Rattle.crew.specs.Logs.{logOf};
 ghost use Rattle.runs.specs.Runs.{SearchReady, SearchDone};

@@ -22,7 +22,8 @@ use Rattle.rules.specs.laws.Connected.{connected-single}
 use Rattle.rules.specs.laws.Decide.{connected?}
 use Rattle.rules.specs.laws.Estimate.{least-below}
 use Rattle.rules.specs.laws.Memo.{one-least}
-use Rattle.rows.specs.Walk.{walk, upTo}
+use Rattle.graph.specs.Walk.{walk}
+use Rattle.rows.specs.Sizes.{upTo}
 use Rattle.rows.specs.WalkLaws.{walk-hit, walk-few, walk-step, rows-start, upTo-none}
 use Rattle.skips.specs.Vectors.{written}
 use Rattle.memo.specs.Layout.{countsTo, starts, cellsTo, cellStarts}

@@ -3,7 +3,7 @@ use Prim.Native.Nat.{_+_, _-_, _≤_}
 use native.Mathlib.Omega.{arith}
 use lib.ListN.{length, getD}
 use Rattle.rules.specs.Query.{graphOf}
-use Rattle.rows.specs.Walk.{upTo}
+use Rattle.rows.specs.Sizes.{upTo}
 use Rattle.rows.specs.WalkLaws.{upTo-none}
 use Rattle.skips.specs.Vectors.{written}
 use Rattle.memo.specs.Layout.{cellsTo}

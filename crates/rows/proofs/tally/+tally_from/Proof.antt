@@ -2,16 +2,17 @@ use mathlib.Core.Path.{_∙_}
 use Prim.Native.Nat.{ℕ, _+_, _-_, _<_}
 use native.Mathlib.Omega.{arith}
 use lib.ListN.{length-set}
-use Rattle.rows.specs.WalkLaws.{all-fits, rest-is, rest-some, rest-apart, rest-fits, with-fits}
-use Rattle.rows.specs.NodeLaws.{node-with, node-without, found-none, found-last, tallied-none, tallied-step, counting-with, counting-without}
+use Rattle.graph.specs.ApartLaws.{all-fits, rest-is, rest-some, rest-apart, rest-fits, with-fits}
+use Rattle.graph.specs.NodeLaws.{node-with, node-without}
+use Rattle.rows.specs.FoundLaws.{found-none, found-last, tallied-none, tallied-step, counting-with, counting-without}
 use borrow.Fn.Kinds.{In}
 use borrow.Fn.PlainCycle.{Measures, is, falls, and}
 use Rattle.rows.proofs.tally.tally_from.Reads as tally-from
 use Rattle.rows.proofs.tally.tally_from.Kinds as tally-from-kinds
 use Rattle.rows.proofs.tally.+tally_from.Lts-tally_from as tally-from-lts
 use Rattle.sets.proofs.single.Reads as single-reads
-use Rattle.rows.proofs.near.stuck.Reads as stuck-reads
-use Rattle.rows.proofs.near.grows.Reads as grows-reads
+use Rattle.graph.proofs.near.stuck.Reads as stuck-reads
+use Rattle.graph.proofs.near.grows.Reads as grows-reads
 use Rattle.rows.proofs.tally.counted.Reads as counted-reads
 use Rattle.rows.proofs.tally.+tally_from.{statement}
 use Rattle.rows.proofs.tally.+tally_from.Tie.{close}

@@ -6,7 +6,7 @@ use lib.ListN.{length, getD}
 use Rattle.rules.specs.Sets.{size}
 use Rattle.rules.specs.Query.{graphOf}
 use Rattle.rules.specs.laws.Lists as lists
-use Rattle.rows.specs.Walk.{upTo}
+use Rattle.rows.specs.Sizes.{upTo}
 use Rattle.rows.specs.WalkLaws.{cells-none, cells-next, cells-end, cells-fit}
 use Rattle.rows.proofs.tally.all_cells.Statement.{statement}
 use Rattle.rows.proofs.tally.all_cells.Tie as tie

@@ -3,7 +3,7 @@ use Prim.Native.Nat.{_+_, _-_, _*_, _≤_}
 use native.Mathlib.Omega.{arith}
 use lib.ListN.{length}
 use Rattle.rules.specs.Query.{graphOf}
-use Rattle.rows.specs.Walk.{upTo}
+use Rattle.rows.specs.Sizes.{upTo}
 use Rattle.rows.specs.WalkLaws.{upTo-none, upTo-end, length-more, rows-fit}
 use Rattle.rows.proofs.tally.all_rows.Statement.{statement}
 use Rattle.rows.proofs.tally.all_rows.Tie as tie
