@@ -9,7 +9,7 @@ use native.Mathlib.Decide.{decLt}
 use native.Mathlib.Omega.{arith}
 use lib.Pow.{pow-mono, pow-pos}
 use lib.Bits.{bitAnd}
-use lib.ListN.{length, set}
+use lib.ListN.{length}
 use borrow.Author.Tests.{eq-eqb}
 use Rattle.rules.specs.Limits.{maxTables}
 use Rattle.rules.specs.Lists.{keep, isYes}

@@ -6,7 +6,7 @@ use Prim.Native.Nat.{ℕ, _+_, _-_, _^_, _≤_, _<_}
 use Rattle.rules.specs.Limits.{maxTables}
 use Rattle.rules.specs.Lists.{isYes}
 use Rattle.rules.specs.Sets.{holds, single}
-use Rattle.rules.specs.Query.{Graph, tableCount, at, Linked}
+use Rattle.rules.specs.Query.{Graph, tableCount, Linked}
 use Rattle.rules.specs.laws.Decide.{connected?}
 use Rattle.graph.specs.Walk.{walk, onward}
 use Rattle.graph.specs.Near.{Near}

@@ -1,11 +1,11 @@
 -- The rows as a recursion meets them: some tables are chosen, and the ones from table t on are still to be chosen from.
 use mathlib.Core.List.{List, map}
 use Prim.Native.Nat.{ℕ, _+_, _-_, _^_}
-use Rattle.rules.specs.Lists.{keep, isYes, inRow}
+use Rattle.rules.specs.Lists.{keep, isYes}
 use Rattle.rules.specs.Sets.{number}
 use Rattle.rules.specs.Query.{Graph}
 use Rattle.rules.specs.Connected.{Connected}
-use Rattle.rules.specs.Rows.{combos, rowsOf}
+use Rattle.rules.specs.Rows.{combos}
 use Rattle.rules.specs.laws.Connected.{Within}
 use Rattle.rules.specs.laws.Decide.{connected?}
 

@@ -6,7 +6,7 @@ use native.Mathlib.Nat.{mul-le-mul}
 use native.Mathlib.Decide.{decLt}
 use native.Mathlib.Omega.{arith}
 use native.Mathlib.Numerals.{add-one}
-use lib.ListN.{length, getD, set, length-append, replicate, length-replicate, getD-replicate, replicate-append-replicate, List·getD-append, List·getD-eq-default}
+use lib.ListN.{length, getD, set, length-append, replicate, length-replicate, replicate-append-replicate, List·getD-append}
 use lib.Seq.{set-comm, getD-at}
 use Rattle.rules.specs.Limits.{maxTables}
 use Rattle.rules.specs.Query.{Graph, tableCount}

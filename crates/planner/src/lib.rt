@@ -1,6 +1,5 @@
 // The library's entry: checks, laying out, the turns in a row, the answer.
 ghost use mathlib.Core.Path.{_≡_};
-ghost use Prim.Native.Nat.{ℕ};
 ghost use Rattle.rules.specs.Kinds.{schemeOf};
 ghost use Rattle.rules.specs.declared.Scheme.{Scheme};
 ghost use Rattle.rules.specs.declared.NewScheme.the-variants.{Good};

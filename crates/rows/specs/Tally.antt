@@ -5,7 +5,7 @@ use mathlib.Core.List.{List, [], _∷_}
 use Prim.Native.Nat.{ℕ, _+_, _-_, _≤_, _<_}
 use lib.Dec.{ltb, eqb}
 use lib.ListN.{length, getD}
-use Rattle.rules.specs.Query.{Graph, tableCount, at}
+use Rattle.rules.specs.Query.{Graph, tableCount}
 use Rattle.rules.specs.Rows.{rowsOf}
 use Rattle.graph.specs.Walk.{walk}
 use Rattle.graph.specs.Node.{Node}

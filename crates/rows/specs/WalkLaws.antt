@@ -13,7 +13,6 @@ use Rattle.rules.specs.Limits.{maxTables}
 use Rattle.rules.specs.Lists.{keep, isYes, inRow}
 use Rattle.rules.specs.Sets.{number, single, size}
 use Rattle.rules.specs.Query.{Graph, tableCount}
-use Rattle.rules.specs.Connected.{step}
 use Rattle.rules.specs.Rows.{combos, sequences, rowsOf, memo}
 use Rattle.rules.specs.Skips.{skips}
 use Rattle.rules.specs.laws.Lists.{length-map, row-last, sum, sum-append}

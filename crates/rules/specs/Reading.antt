@@ -7,7 +7,6 @@ use lib.ListN.{length, getD, drop}
 use Rattle.rules.specs.declared.Verdict.{Verdict}
 use Rattle.rules.specs.declared.forms.Kind.{Kind}
 use Rattle.rules.specs.declared.forms.Kind.the-variants.{Table, Method, Edge, Crew}
-use Rattle.rules.specs.declared.forms.Form.{Form}
 use Rattle.rules.specs.declared.forms.Letter.{Letter}
 use Rattle.rules.specs.declared.forms.Letter.the-variants.{Known, Unknown}
 use Rattle.rules.specs.Limits.{maxTables, maxMethods, maxEdgeLines, maxBytes}

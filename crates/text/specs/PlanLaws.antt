@@ -1,6 +1,6 @@
 -- From what planning promises to the lines of its answer.
 use mathlib.Core.Path.{_≡_, refl, sym, ap, _∙_, subst}
-use mathlib.Core.List.{List, [], _∷_, _++_, map, List·Memᴰ}
+use mathlib.Core.List.{List, _++_, map, List·Memᴰ}
 use Prim.Native.Nat.{ℕ, zero, suc, _+_, _-_, _^_, _≤_, _<_}
 use native.Mathlib.Decide.{decLt}
 use native.Mathlib.Omega.{arith}
@@ -8,25 +8,24 @@ use lib.Pow.{pow-pos}
 use lib.ListN.{length, getD, length-append}
 use Rattle.rules.specs.declared.Verdict.{Verdict}
 use Rattle.rules.specs.Limits.{maxTables, textRows, answerRoom}
-use Rattle.rules.specs.Lists.{over}
 use Rattle.rules.specs.Sets.{size, single, full}
-use Rattle.rules.specs.Query.{Graph, Query, tableCount}
+use Rattle.rules.specs.Query.{Graph, tableCount}
 use Rattle.rules.specs.Estimate.{estimate}
 use Rattle.rules.specs.Rows.{memo}
 use Rattle.rules.specs.Trees.{Tree, tablesOf, costOf, Least, Picked}
-use Rattle.rules.specs.Refusals.{Memory, Input, verdict}
+use Rattle.rules.specs.Refusals.{Input, verdict}
 use Rattle.rules.specs.Checked.{Accepted}
 use Rattle.rules.specs.Answers as rules
 use Rattle.rules.specs.Answers.{Outcome, Row, Filled, Given, Planned}
 use Rattle.rules.specs.Writing.{planLine, joinLines, refusalLine}
-use Rattle.rules.specs.Text.{blanks, PlanText, Lined}
+use Rattle.rules.specs.Text.{blanks, PlanText}
 use Rattle.rules.specs.laws.Lists.{in-at, length-map, at-map, over-length, over-at, over-past}
 use Rattle.rules.specs.laws.Sets.{size-le}
 use Rattle.rules.specs.laws.Rows.{memo-only, below-all}
 use Rattle.rules.specs.laws.Refusals.{accepted}
 use Rattle.rules.specs.laws.Bellman.{least-unique}
-use Rattle.rules.specs.laws.Picked.{PickedTree, picked-valid, picked-least}
-use Rattle.rules.specs.laws.Writing.{lineRoom, joinRoom, plan-room, refusal-room, joins-room}
+use Rattle.rules.specs.laws.Picked.{picked-valid, picked-least}
+use Rattle.rules.specs.laws.Writing.{lineRoom, plan-room, refusal-room, joins-room}
 use Rattle.rules.specs.laws.Text.{given-tree}
 use Rattle.writer.specs.Put.{Put}
 use Rattle.writer.specs.PutLaws.{put-then}

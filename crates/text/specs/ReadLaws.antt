@@ -13,7 +13,7 @@ use Rattle.rules.specs.Reading.{Read, Reading, reading}
 use Rattle.rules.specs.Writing.{refusalLine}
 use Rattle.rules.specs.Text.{textInput, inputFor, inputOf, textVerdict, Lined, Answers, Written}
 use Rattle.rules.specs.laws.Writing.{refusal-room}
-use Rattle.rules.specs.laws.Text.{GoodText, good-none, unread-verdict, unplanned-verdict}
+use Rattle.rules.specs.laws.Text.{good-none, unread-verdict, unplanned-verdict}
 use Rattle.query.specs.Lists.{queryOf}
 use Rattle.memo.specs.LayoutLaws.{front}
 use Rattle.fields.specs.declared.kinds.Progress.{Progress}

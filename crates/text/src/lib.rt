@@ -1,6 +1,5 @@
 // The text entry's work: a text's bytes to the bytes of its answer.
 ghost use mathlib.Core.Path.{_≡_};
-ghost use mathlib.Core.List.{[]};
 ghost use Prim.Native.Nat.{_≤_};
 ghost use lib.ListN.{length};
 ghost use Rattle.rules.specs.Limits.{answerRoom};

@@ -1,6 +1,6 @@
 // A plan's joins from the memo's rows: "For each join its outer part's joins, then its inner part's, then its own."
 ghost use mathlib.Core.Path.{_≡_};
-ghost use Prim.Native.Nat.{ℕ, _≤_, _<_, _+_, _^_};
+ghost use Prim.Native.Nat.{ℕ, _≤_, _<_, _^_};
 ghost use lib.ListN.{length, getD};
 ghost use Rattle.rules.specs.Query.{Query};
 ghost use Rattle.rules.specs.Trees.{Tree, tablesOf, stepOf, Picked};

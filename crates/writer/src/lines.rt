@@ -1,5 +1,4 @@
 // The three kinds of line of an answer: "Answer lines part their fields by one blank, not a tab, and end in LF."
-ghost use mathlib.Core.Path.{_≡_};
 ghost use mathlib.Core.List.{_∷_, []};
 ghost use Prim.Native.Nat.{_≤_, _+_};
 ghost use lib.ListN.{length};

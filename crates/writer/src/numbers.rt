@@ -1,6 +1,5 @@
 // Numbers and sets in decimal.
-ghost use mathlib.Core.Path.{_≡_};
-ghost use Prim.Native.Nat.{_≤_, _<_, _+_, _^_};
+ghost use Prim.Native.Nat.{_≤_, _<_, _+_};
 ghost use mathlib.Core.List.{_∷_, []};
 ghost use lib.ListN.{length};
 ghost use lib.Dec.{ltb};

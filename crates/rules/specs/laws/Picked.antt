@@ -4,7 +4,7 @@ use mathlib.Core.List.{List·Memᴰ}
 use Prim.Native.Nat.{ℕ, zero, suc, _+_, _-_, _^_, _≤_, _<_}
 use native.Mathlib.Decide.{decLt}
 use native.Mathlib.Omega.{arith}
-use Rattle.rules.specs.Sets.{Disjoint, size, single, holds}
+use Rattle.rules.specs.Sets.{Disjoint, size, single}
 use Rattle.rules.specs.Query.{Query, IsTable, tableCount}
 use Rattle.rules.specs.Connected.{Connected}
 use Rattle.rules.specs.Rows.{memo}

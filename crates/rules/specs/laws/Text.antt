@@ -1,7 +1,7 @@
 -- The text entry: each text has one answer; it begins with P exactly where the text is good and the library accepts its query.
 use mathlib.Core.Path.{_≡_, refl, sym, ap, _∙_, subst}
 use mathlib.Core.List.{List, [], _∷_, _++_}
-use Prim.Native.Nat.{ℕ, suc, _≤_, _<_}
+use Prim.Native.Nat.{ℕ, _≤_, _<_}
 use native.Mathlib.Decide.{decLt, ℕ-discrete}
 use native.Mathlib.Nat.{le-refl}
 use native.Mathlib.Omega.{arith}
@@ -11,13 +11,11 @@ use Rattle.rules.specs.declared.Verdict.{Verdict}
 use Rattle.rules.specs.Limits.{answerRoom}
 use Rattle.rules.specs.Lists.{over}
 use Rattle.rules.specs.Sets.{size, full}
-use Rattle.rules.specs.Query.{Query, tableCount}
+use Rattle.rules.specs.Query.{tableCount}
 use Rattle.rules.specs.Connected.{Connected}
 use Rattle.rules.specs.Rows.{memo}
-use Rattle.rules.specs.Trees.{Tree, tablesOf, costOf, Least, Pick, Picked}
-use Rattle.rules.specs.Shares.{Numbered}
-use Rattle.rules.specs.Turns.{Hand}
-use Rattle.rules.specs.Refusals.{Input, firstOf, verdict, none}
+use Rattle.rules.specs.Trees.{costOf, Least, Pick}
+use Rattle.rules.specs.Refusals.{Input, firstOf, verdict}
 use Rattle.rules.specs.Answers.{Outcome, Given}
 use Rattle.rules.specs.Reading.{reading}
 use Rattle.rules.specs.Writing.{answerLine, planLine, refusalLine, joinLines}
@@ -26,7 +24,7 @@ use Rattle.rules.specs.laws.Lists.{in-at}
 use Rattle.rules.specs.laws.Rows.{memo-all}
 use Rattle.rules.specs.laws.Picked.{PickedTree, picked-exists, picked-least, picked-unique}
 use Rattle.rules.specs.laws.Refusals.{accepted}
-use Rattle.rules.specs.laws.Outcome.{outcome, outcome-planned}
+use Rattle.rules.specs.laws.Outcome.{outcome-planned}
 use Rattle.rules.specs.laws.Answers.{hands-unique}
 
 -- ---- the answer of a plan

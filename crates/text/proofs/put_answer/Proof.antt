@@ -1,9 +1,5 @@
-use mathlib.Core.Path.{_≡_, refl, sym, ap, _∙_}
-use mathlib.Core.List.{List}
-use Prim.Native.Nat.{ℕ, _+_, _-_, _^_, _≤_, _<_}
+use Prim.Native.Nat.{_^_, _<_}
 use native.Mathlib.Omega.{arith}
-use lib.ListN.{length}
-use Rattle.rules.specs.Trees.{Tree}
 use Rattle.planner.specs.declared.Answer.{Answer}
 use Rattle.writer.specs.PutLaws.{put-length}
 use Rattle.text.specs.PlanLaws.{answered-refused, answered-few, answered-kept, answered-put, answered-planned, plan-fits, refusal-fits, all-tables, some-tables}

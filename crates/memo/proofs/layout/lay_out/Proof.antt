@@ -1,6 +1,4 @@
-use native.Mathlib.Omega.{arith}
 use borrow.Author.Needs.{needs}
-use lib.ListN.{length}
 use Rattle.rules.specs.Query.{graphOf}
 use Rattle.memo.specs.Layout.{lent}
 use Rattle.memo.specs.LayoutLaws.{counted, room-for, too-few-rows, too-few-cells, enough}

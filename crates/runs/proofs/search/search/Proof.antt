@@ -16,7 +16,6 @@ use Rattle.turns.specs.Standing.{columns}
 use Rattle.turns.specs.QueueLaws.{stillMet}
 use Rattle.turns.specs.StepLaws.{ready-read}
 use Rattle.turns.specs.StartLaws.{Prepared}
-use Rattle.crew.specs.Workers.{workerAt}
 use Rattle.crew.specs.Logs.{logOf}
 use Rattle.runs.specs.Runs.{Between, Underway, Carried}
 use Rattle.runs.specs.HandLaws.{InHand, hand-start, hand-changed, hand-kept, put-down, hand-turn, hand-lowest}
