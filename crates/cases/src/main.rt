@@ -1,27 +1,38 @@
-// Document 01's cases C1 to C12 through the library's entry, each under its name: the answer, the memo with its skip vectors, the
-// log, and what stands in the spare part of all that was lent.
-// What it must print was worked out from document 01 apart from this code, and stands in `stdout`.
+// Inputs through the library's entry, each under its name: document 01's cases C1 to C12 and some more with the answer, the memo with
+// its skip vectors, the log, and what stands in the spare part of all that was lent; then both sides of every limit of checks 1 to 12
+// with number and place.
+// The inputs stand in `stdin`. What it must print was worked out from document 01 apart from this code, and stands in `stdout`.
 use planner::Answer;
 use planner::plan;
 use sets::has_table;
 use sets::size;
+use std::num::wrapping_add_u64;
 use std::num::wrapping_add_usize;
-ghost use Prim.Native.Nat.{_≤_};
+use std::num::wrapping_sub_u64;
+ghost use Prim.Native.Nat.{_+_, _≤_, _<_};
+ghost use lib.ListN.{length};
+
+const STDIN: i32 = 0;
 
 const STDOUT: i32 = 1;
 
 // What stands in lent memory before.
 const MARK: u64 = 77;
 
-// Room for the largest of these queries, figure 4, and some to spare.
-const ROWS: usize = 80;
+// Room for the largest of these queries, a chain of sixteen tables, and some to spare.
+const ROWS: usize = 140;
 
-const CELLS: usize = 400;
+const CELLS: usize = 820;
 
 const ENTRIES: usize = 8;
 
 // One more than the largest number of a table.
 const PAST_TABLES: u64 = 17;
+
+// The lists of an input stand one after another, in the order of `list_of`: each has a cell for its length, and room for 31 numbers.
+const ROOM: usize = 32;
+
+const MOST: usize = 31;
 
 fn put(text: &[u8]) {
     io::write_all(STDOUT, text);
@@ -75,8 +86,8 @@ fn print_set(set: u64) {
 }
 
 // Cells `from` to `to` of the skip vectors, a blank before each.
-fn print_cells(skips: &[u64; 400], from: usize, to: usize)
-    requires { ⌜ to ≤ 400 ⌝ }
+fn print_cells(skips: &[u64; 820], from: usize, to: usize)
+    requires { ⌜ to ≤ 820 ⌝ }
 {
     for i in from..to {
         print_next(skips[i]);
@@ -95,15 +106,15 @@ fn print_row(set: u64, estimate: u64, cost: u64, outer: u64, method: u64) {
 
 // The first `count` rows, each with its skip vector, which has a cell for each table of the set.
 fn print_memo(
-    sets: &[u64; 80],
-    estimates: &[u64; 80],
-    costs: &[u64; 80],
-    outers: &[u64; 80],
-    methods: &[u64; 80],
-    skips: &[u64; 400],
+    sets: &[u64; 140],
+    estimates: &[u64; 140],
+    costs: &[u64; 140],
+    outers: &[u64; 140],
+    methods: &[u64; 140],
+    skips: &[u64; 820],
     count: usize,
 )
-    requires { ⌜ count ≤ 80 ⌝ }
+    requires { ⌜ count ≤ 140 ⌝ }
 {
     let mut at = 0usize;
     for i in 0..count {
@@ -119,15 +130,15 @@ fn print_memo(
 
 // The memo rows from `from` to `to`, which planning leaves as they were, as plain numbers.
 fn print_spare_rows(
-    sets: &[u64; 80],
-    estimates: &[u64; 80],
-    costs: &[u64; 80],
-    outers: &[u64; 80],
-    methods: &[u64; 80],
+    sets: &[u64; 140],
+    estimates: &[u64; 140],
+    costs: &[u64; 140],
+    outers: &[u64; 140],
+    methods: &[u64; 140],
     from: usize,
     to: usize,
 )
-    requires { ⌜ to ≤ 80 ⌝ }
+    requires { ⌜ to ≤ 140 ⌝ }
 {
     for i in from..to {
         put(b"spare row");
@@ -204,25 +215,25 @@ fn print_answer(answer: Answer) {
 // The answer, then what was lent: the part that planning fills, and the spare part.
 fn print_all(
     answer: Answer,
-    sets: &[u64; 80],
-    estimates: &[u64; 80],
-    costs: &[u64; 80],
-    outers: &[u64; 80],
-    methods: &[u64; 80],
-    skips: &[u64; 400],
+    sets: &[u64; 140],
+    estimates: &[u64; 140],
+    costs: &[u64; 140],
+    outers: &[u64; 140],
+    methods: &[u64; 140],
+    skips: &[u64; 820],
     log_workers: &[u64; 8],
     log_driving: &[u64; 8],
     log_inner: &[u64; 8],
     log_costs: &[u64; 8],
-    lent: usize,
-    lent_cells: usize,
-    lent_entries: usize,
-) {
-    let rows = at_most(lent, ROWS);
-    let cells = at_most(lent_cells, CELLS);
-    let entries = at_most(lent_entries, ENTRIES);
+    rows: usize,
+    cells: usize,
+    entries: usize,
+)
+    requires { ⌜ (rows ≤ 140) × (cells ≤ 820) × (entries ≤ 8) ⌝ }
+{
     let filled = at_most(answer.rows as usize, rows);
     let logged = at_most(answer.pairs as usize, entries);
+    put(b"\n");
     print_answer(answer);
     print_memo(sets, estimates, costs, outers, methods, skips, filled);
     print_spare_rows(sets, estimates, costs, outers, methods, filled, rows);
@@ -240,32 +251,47 @@ fn print_all(
     );
 }
 
-// Plans a query in so many marked rows, cells and log entries, and prints the answer and all of them.
+fn print_verdict(answer: Answer) {
+    print_named(b":", answer.refusal);
+    print_next(answer.place);
+    put(b"\n");
+}
+
+// Plans a query in marked memory, of so many cells to each column, and prints the answer and all of it, or number and place alone.
 fn plan_in(
     rows: &[u64],
     scans: &[u64],
     left: &[u64],
     right: &[u64],
     divisors: &[u64],
+    fixed: &[u64],
+    outer: &[u64],
+    inner: &[u64],
+    result: &[u64],
     workers: u64,
     scheme: u64,
     turns: &[u64],
-    lent: usize,
-    cells: usize,
-    entries: usize,
+    lentsets: usize,
+    lentestimates: usize,
+    lentcosts: usize,
+    lentouters: usize,
+    lentmethods: usize,
+    lentcells: usize,
+    loggedworkers: usize,
+    loggeddriving: usize,
+    loggedinner: usize,
+    loggedcosts: usize,
+    full: bool,
 )
-    requires { ⌜ (lent ≤ 80) × (cells ≤ 400) × (entries ≤ 8) ⌝ }
+    requires { ⌜ (lentsets ≤ 140) × (lentestimates ≤ 140) × (lentcosts ≤ 140) × (lentouters ≤ 140) × (lentmethods ≤ 140) × (lentcells ≤ 820) ⌝ }
+    requires { ⌜ (loggedworkers ≤ 8) × (loggeddriving ≤ 8) × (loggedinner ≤ 8) × (loggedcosts ≤ 8) ⌝ }
 {
-    let fixed = [5, 50];
-    let outer = [1, 1];
-    let inner = [2, 1];
-    let result = [1, 1];
-    let mut sets = [MARK; 80];
-    let mut estimates = [MARK; 80];
-    let mut costs = [MARK; 80];
-    let mut outers = [MARK; 80];
-    let mut methods = [MARK; 80];
-    let mut skips = [MARK; 400];
+    let mut sets = [MARK; 140];
+    let mut estimates = [MARK; 140];
+    let mut costs = [MARK; 140];
+    let mut outers = [MARK; 140];
+    let mut methods = [MARK; 140];
+    let mut skips = [MARK; 820];
     let mut log_workers = [MARK; 8];
     let mut log_driving = [MARK; 8];
     let mut log_inner = [MARK; 8];
@@ -276,24 +302,28 @@ fn plan_in(
         left,
         right,
         divisors,
-        &fixed,
-        &outer,
-        &inner,
-        &result,
+        fixed,
+        outer,
+        inner,
+        result,
         workers,
         scheme,
         turns,
-        &mut sets[0..lent],
-        &mut estimates[0..lent],
-        &mut costs[0..lent],
-        &mut outers[0..lent],
-        &mut methods[0..lent],
-        &mut skips[0..cells],
-        &mut log_workers[0..entries],
-        &mut log_driving[0..entries],
-        &mut log_inner[0..entries],
-        &mut log_costs[0..entries],
+        &mut sets[0..lentsets],
+        &mut estimates[0..lentestimates],
+        &mut costs[0..lentcosts],
+        &mut outers[0..lentouters],
+        &mut methods[0..lentmethods],
+        &mut skips[0..lentcells],
+        &mut log_workers[0..loggedworkers],
+        &mut log_driving[0..loggeddriving],
+        &mut log_inner[0..loggedinner],
+        &mut log_costs[0..loggedcosts],
     );
+    if !full {
+        print_verdict(answer);
+        return;
+    }
     print_all(
         answer,
         &sets,
@@ -306,149 +336,197 @@ fn plan_in(
         &log_driving,
         &log_inner,
         &log_costs,
-        lent,
-        cells,
-        entries,
+        lentsets,
+        lentcells,
+        loggedworkers,
     );
 }
 
-// Document 01's query, planned by a crew in so many rows, cells and log entries.
-fn example(
-    name: &[u8],
-    workers: u64,
-    scheme: u64,
-    turns: &[u64],
-    lent: usize,
-    cells: usize,
-    entries: usize,
-)
-    requires { ⌜ (lent ≤ 80) × (cells ≤ 400) × (entries ≤ 8) ⌝ }
+fn get(cells: &[u64], i: usize) -> u64 {
+    if i < cells.len() {
+        return cells[i];
+    }
+    0
+}
+
+// Where the list ends whose numbers begin at `from`.
+fn end_of(cells: &[u64], from: usize) -> usize
+    requires { ⌜ (1 ≤ from) × (from ≤ 480) ⌝ }
+    ensures { λ r. ⌜ (from ≤ r) × (r ≤ from + 31) ⌝ }
 {
-    let rows = [100, 10, 1000];
-    let scans = [100, 10, 1000];
-    let left = [1, 2];
-    let right = [2, 3];
-    let divisors = [10, 100];
-    put(name);
+    from + at_most(get(cells, from - 1) as usize, MOST)
+}
+
+// Plans what the lists hold.
+fn plan_lists(cells: &[u64], full: bool) {
+    if cells.len() < 480 {
+        return;
+    }
+    let rows = end_of(cells, 1);
+    let scans = end_of(cells, 33);
+    let left = end_of(cells, 65);
+    let right = end_of(cells, 97);
+    let divisors = end_of(cells, 129);
+    let fixed = end_of(cells, 161);
+    let outer = end_of(cells, 193);
+    let inner = end_of(cells, 225);
+    let result = end_of(cells, 257);
+    let turns = end_of(cells, 289);
     plan_in(
-        &rows,
-        &scans,
-        &left,
-        &right,
-        &divisors,
-        workers,
-        scheme,
-        turns,
-        lent,
-        cells,
-        entries,
+        &cells[1..rows],
+        &cells[33..scans],
+        &cells[65..left],
+        &cells[97..right],
+        &cells[129..divisors],
+        &cells[161..fixed],
+        &cells[193..outer],
+        &cells[225..inner],
+        &cells[257..result],
+        get(cells, 321),
+        get(cells, 322),
+        &cells[289..turns],
+        at_most(get(cells, 353) as usize, ROWS),
+        at_most(get(cells, 354) as usize, ROWS),
+        at_most(get(cells, 355) as usize, ROWS),
+        at_most(get(cells, 356) as usize, ROWS),
+        at_most(get(cells, 357) as usize, ROWS),
+        at_most(get(cells, 385) as usize, CELLS),
+        at_most(get(cells, 417) as usize, ENTRIES),
+        at_most(get(cells, 418) as usize, ENTRIES),
+        at_most(get(cells, 419) as usize, ENTRIES),
+        at_most(get(cells, 420) as usize, ENTRIES),
+        full,
     );
 }
 
-// The query with one worker and no list of turns.
-fn alone(name: &[u8], lent: usize, cells: usize, entries: usize)
-    requires { ⌜ (lent ≤ 80) × (cells ≤ 400) × (entries ≤ 8) ⌝ }
+// The list of a letter; a line of another letter is a remark, and stands in a list that nobody reads.
+fn list_of(letter: u8) -> usize
+    ensures { λ r. ⌜ r < 15 ⌝ }
 {
-    let turns = [0u64; 0];
-    example(name, 1, 1, &turns, lent, cells, entries);
+    match letter {
+        b'r' => 0,
+        b's' => 1,
+        b'a' => 2,
+        b'b' => 3,
+        b'd' => 4,
+        b'f' => 5,
+        b'o' => 6,
+        b'i' => 7,
+        b'e' => 8,
+        b't' => 9,
+        b'w' => 10,
+        b'm' => 11,
+        b'c' => 12,
+        b'g' => 13,
+        _ => 14,
+    }
 }
 
-// The query with C5's crew: two workers, scheme 3, turns 1,1.
-fn listed(name: &[u8], entries: usize)
-    requires { ⌜ entries ≤ 8 ⌝ }
+// A number with one more byte of its line: ten times the number and the digit, or at a blank a new number.
+fn with_byte(number: u64, byte: u8) -> u64 {
+    if byte == b' ' {
+        return 0;
+    }
+    let two = wrapping_add_u64(number, number);
+    let four = wrapping_add_u64(two, two);
+    let ten = wrapping_add_u64(wrapping_add_u64(four, four), two);
+    wrapping_add_u64(ten, wrapping_sub_u64(byte as u64, 48))
+}
+
+// How many numbers there are with one more byte of their line: a new one at a blank, if there is room.
+fn counted(count: usize, byte: u8) -> usize
+    requires { ⌜ count ≤ 31 ⌝ }
+    ensures { λ r. ⌜ r ≤ 31 ⌝ }
 {
-    let turns = [1, 1];
-    example(name, 2, 3, &turns, 8, 12, entries);
+    if byte != b' ' {
+        return count;
+    }
+    if count < MOST {
+        return count + 1;
+    }
+    count
 }
 
-// The query with C6's crew: two workers, scheme 1, no list.
-fn shared() {
-    let turns = [0u64; 0];
-    example(b"C6: two workers, scheme 1\n", 2, 1, &turns, 8, 12, 6);
+fn set(cells: &mut [u64], i: usize, value: u64) {
+    if i < cells.len() {
+        cells[i] = value;
+    }
 }
 
-// 000's figure 4: eight tables, edges 1-2, 1-3, 1-4, 2-5, 2-6, 4-7, 4-8. It has far more pairs than the log has entries.
-fn figure_4() {
-    let rows = [10, 20, 30, 40, 50, 60, 70, 80];
-    let scans = [10, 20, 30, 40, 50, 60, 70, 80];
-    let left = [1, 1, 1, 2, 2, 4, 4];
-    let right = [2, 3, 4, 5, 6, 7, 8];
-    let divisors = [2, 3, 4, 5, 6, 7, 8];
-    let turns = [0u64; 0];
-    put(b"C4: figure 4\n");
-    plan_in(
-        &rows,
-        &scans,
-        &left,
-        &right,
-        &divisors,
-        1,
-        1,
-        &turns,
-        65,
-        258,
-        6,
-    );
+// The numbers of a line, a blank before each, to a list.
+fn read_list(text: &[u8], from: usize, end: usize, cells: &mut [u64], list: usize)
+    requires { ⌜ (end ≤ length (now text)) × (list < 15) ⌝ }
+{
+    let mut count = 0usize;
+    for i in from..end {
+        let byte = text[i];
+        count = counted(count, byte);
+        let at = ROOM * list + count;
+        set(cells, at, with_byte(get(cells, at), byte));
+    }
+    set(cells, ROOM * list, count as u64);
 }
 
-fn one_table() {
-    let table = [100];
-    let none = [0u64; 0];
-    put(b"C7: one table\n");
-    plan_in(&table, &table, &none, &none, &none, 1, 1, &none, 2, 2, 1);
+fn copy(from: &[u64], to: &mut [u64]) {
+    for i in 0..from.len() {
+        set(to, i, from[i]);
+    }
 }
 
-fn no_table() {
-    let none = [0u64; 0];
-    put(b"C8: no table\n");
-    plan_in(&none, &none, &none, &none, &none, 1, 1, &none, 2, 2, 1);
+// Where the line that begins at `from` ends: at its LF, or at the end of the text.
+fn line_end(text: &[u8], from: usize) -> usize
+    requires { ⌜ from ≤ length (now text) ⌝ }
+    ensures { λ r. ⌜ (from ≤ r) × (r ≤ length (now (text .entry))) ⌝ }
+{
+    for i in from..text.len() {
+        if text[i] == b'\n' {
+            return i;
+        }
+    }
+    text.len()
 }
 
-fn no_edge() {
-    let tables = [100, 10];
-    let none = [0u64; 0];
-    put(b"C9: two tables, no edge\n");
-    plan_in(&tables, &tables, &none, &none, &none, 1, 1, &none, 4, 5, 2);
+// Prints the name of an input, which stands behind the line's first byte, and plans it.
+fn run(text: &[u8], from: usize, end: usize, cells: &[u64], full: bool)
+    requires { ⌜ end ≤ length (now text) ⌝ }
+{
+    if from < end {
+        let name = from + 1;
+        put(&text[name..end]);
+    }
+    plan_lists(cells, full);
 }
 
-// The query with no rows in table 2.
-fn without_rows() {
-    let rows = [100, 0, 1000];
-    let scans = [100, 10, 1000];
-    let left = [1, 2];
-    let right = [2, 3];
-    let divisors = [10, 100];
-    let turns = [0u64; 0];
-    put(b"C11: no rows in table 2\n");
-    plan_in(
-        &rows,
-        &scans,
-        &left,
-        &right,
-        &divisors,
-        1,
-        1,
-        &turns,
-        8,
-        12,
-        6,
-    );
+// A letter's line sets its list, `=` keeps all lists for the inputs that follow, `!` and `?` plan, and what was kept stands again.
+fn take_line(text: &[u8], from: usize, end: usize, kept: &mut [u64], cells: &mut [u64])
+    requires { ⌜ (from < length (now text)) × (end ≤ length (now text)) ⌝ }
+{
+    let kind = text[from];
+    if kind == b'=' {
+        copy(cells, kept);
+        return;
+    }
+    if kind == b'!' || kind == b'?' {
+        run(text, from, end, cells, kind == b'!');
+        copy(kept, cells);
+        return;
+    }
+    read_list(text, from + 1, end, cells, list_of(kind));
 }
 
-// The query has six rows, ten cells and four pairs.
+fn take_lines(text: &[u8], kept: &mut [u64], cells: &mut [u64]) {
+    let mut from = 0usize;
+    while from < text.len() {
+        let end = line_end(text, from);
+        take_line(text, from, end, kept, cells);
+        from = end + 1;
+    }
+}
+
 fn main() {
-    alone(b"C1, C2, C3: one worker\n", 8, 12, 6);
-    figure_4();
-    listed(b"C5: two workers, scheme 3, turns 1,1\n", 6);
-    shared();
-    one_table();
-    no_table();
-    no_edge();
-    alone(b"C10: six rows\n", 6, 12, 6);
-    alone(b"C10: five rows\n", 5, 12, 6);
-    without_rows();
-    alone(b"C12: ten cells\n", 8, 10, 6);
-    alone(b"C12: nine cells\n", 8, 9, 6);
-    listed(b"a log of three\n", 3);
-    listed(b"no log\n", 0);
+    let mut text = [0u8; 16384];
+    let length = io::read_full(STDIN, &mut text);
+    let mut kept = [0u64; 480];
+    let mut cells = [0u64; 480];
+    take_lines(&text[0..length], &mut kept, &mut cells);
 }
