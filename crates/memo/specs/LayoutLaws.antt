@@ -1,12 +1,12 @@
 -- Laws of laying out: the rows of one size in a list of all rows, their skip cells after those of the smaller sizes, the columns, the one outcome.
 use mathlib.Core.Path.{_≡_, refl, sym, ap, ap₂, _∙_}
-use mathlib.Core.List.{List, [], _++_, append-nil, _∷_}
+use mathlib.Core.List.{List, [], _++_, _∷_}
 use Prim.Native.Nat.{ℕ, _+_, _-_, _*_, _≤_, _<_}
 use native.Mathlib.Nat.{zero-add}
 use native.Mathlib.Decide.{decLt}
 use native.Mathlib.Omega.{arith}
 use borrow.Author.Tests.{lt-ltb, le-ltb}
-use lib.ListN.{length, take, drop, length-append, length-take, replicate}
+use lib.ListN.{length, take, drop, length-append, length-take, length-replicate, replicate, replicate-append-replicate, set}
 use lib.Seq.{slice, take-take, take-at, drop-at, sets-eq, length-sets}
 use Rattle.rules.specs.Limits.{maxTables}
 use Rattle.rules.specs.Lists.{inRow, over}
@@ -20,10 +20,12 @@ use Rattle.rows.specs.WalkLaws.{wrote-both, upTo-more, length-more}
 use Rattle.rules.specs.laws.Lists.{row-split}
 use Rattle.skips.specs.SizeRows.{SizeRows}
 use Rattle.skips.specs.Vectors.{written}
-use Rattle.memo.specs.FindLaws.{rows-sized}
-use Rattle.skips.specs.VectorLaws.{vectors-of, vectors-cells}
+use Rattle.lookup.specs.FindLaws.{rows-sized}
+use Rattle.starts.specs.Starts.{cellsTo}
+use Rattle.starts.specs.CountLaws.{written-push, cells-size, cells-count}
+use Rattle.skips.specs.VectorLaws.{vectors-of}
 use Rattle.memo.specs.declared.layout.Laid.{Laid}
-use Rattle.memo.specs.Layout.{cellsTo, Lent, lent, lentOf, Room, laid, refused, answered, counts, LaidOut, OneLength}
+use Rattle.memo.specs.Layout.{Lent, lent, lentOf, Room, laid, refused, answered, counts, LaidOut, OneLength}
 
 -- ---- lists in a row
 row-whole : {C : Type 0} (f : ℕ → List C) (k n : ℕ) → k ≤ n → inRow f 1 n ≡ inRow f 1 k ++ inRow f (1 + k) (n - k)
@@ -38,22 +40,9 @@ part-at s whole a b c {from} {to} t w f e =
 
 -- ---- the skip cells of the sizes 1 to k
 module _ (g : Graph) where
-  pub cells-start : cellsTo g 0 ≡ []
-  unfolding inRow
-  cells-start = refl
-
   pub cells-all : (k : ℕ) → k ≡ tableCount g → cellsTo g k ≡ skips g
   unfolding skips
   cells-all k e = ap (cellsTo g) e
-
-  cells-size : (k : ℕ) → cellsTo g (k + 1) ≡ cellsTo g k ++ vectors g (k + 1)
-  unfolding inRow
-  cells-size k =
-      let e : 1 + k ≡ k + 1 = omega arith in
-      row-split (vectors g) 1 k 1 ∙ ap (λ (l : List ℕ). cellsTo g k ++ l) (append-nil (vectors g (1 + k)) ∙ ap (vectors g) e)
-
-  pub cells-count : (k : ℕ) {r : ℕ} → r ≡ length (rowsOf g (k + 1)) → length (cellsTo g (k + 1)) ≡ length (cellsTo g k) + r * (k + 1)
-  cells-count k e = omega (arith, ap (λ (x : ℕ). x * (k + 1)) e, vectors-cells g (k + 1), ap length (cells-size k), length-append (cellsTo g k) (vectors g (k + 1)))
 
   cells-le : (k : ℕ) → k ≤ tableCount g → length (cellsTo g k) ≤ length (skips g)
   unfolding skips
@@ -197,3 +186,9 @@ unfolding AllSame AllAre groups
 one-length q workers scheme turns log old e =
     let h = same-groups q workers scheme turns (length (old .sets) ∷ length (old .estimates) ∷ length (old .costs) ∷ length (old .outers) ∷ length (old .methods) ∷ []) log e .1 .1 .1 .0 in
     record { estimates = h .0; costs = h .1 .0; outers = h .1 .1 .0; methods = h .1 .1 .1 .0 }
+
+-- a column of zeros: one more
+pub zeros-more : (d : List ℕ) (i : ℕ) {l : List ℕ} → l ≡ written d 0 (replicate i 0) → set l i 0 ≡ written d 0 (replicate (i + 1) 0)
+zeros-more d i e =
+    let z : ℕ = 0 in
+    rw e (written-push d 0 i (replicate i 0) 0 (omega (arith, length-replicate i z)) ∙ ap (written d 0) (replicate-append-replicate i 1 0))

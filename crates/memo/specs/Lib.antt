@@ -1,5 +1,3 @@
--- What laying out and finding mean, and the laws that the proofs cite.
-pub mod FindLaws
+-- What laying out means, and the laws that the proofs cite.
 pub mod Layout
-pub mod ColumnLaws
 pub mod LayoutLaws

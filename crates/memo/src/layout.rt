@@ -1,7 +1,7 @@
 // Laying out the memo as a whole.
 ghost use mathlib.Core.Path.{_≡_};
 ghost use Prim.Native.Nat.{_≤_};
-ghost use lib.ListN.{length, take};
+ghost use lib.ListN.{length, take, replicate};
 ghost use Rattle.rules.specs.Query.{graphOf};
 ghost use Rattle.rules.specs.Checked.{GoodGraph};
 ghost use Rattle.rules.specs.Rows.{memo};
@@ -9,7 +9,6 @@ ghost use Rattle.rules.specs.Skips.{skips};
 ghost use Rattle.rows.specs.Tally.{Tally};
 ghost use Rattle.skips.specs.Vectors.{written};
 ghost use Rattle.memo.specs.Layout.{lent, OneLength, Room, laid, answered, LaidOut};
-use super::columns::lay_zeros;
 use fill::lay_rows;
 use rows::tally::all_cells;
 use rows::tally::all_rows;
@@ -29,6 +28,16 @@ fn answer(refusal: u64, rows: usize, cells: usize) -> Laid
         refusal: refusal,
         rows: rows as u64,
         cells: cells as u64,
+    }
+}
+
+// Clears the first `count` cells.
+fn lay_zeros(count: usize, out: &mut [u64])
+    requires { ⌜ count ≤ length (now out) ⌝ }
+    ensures { λ _. ⌜ now (out .exit) ≡ written (now (out .entry)) 0 (replicate count 0) ⌝ }
+{
+    for i in 0..count {
+        out[i] = 0;
     }
 }
 

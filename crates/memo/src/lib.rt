@@ -1,4 +1,2 @@
-// Laying out the memo: its columns, and all of it at once; finding the row of a set in it.
-pub mod columns;
-pub mod find;
+// Laying out the memo, all of it at once.
 pub mod layout;

@@ -13,7 +13,7 @@ use Rattle.rules.specs.Skips.{skips}
 use Rattle.rules.specs.Shares.{Numbered, met}
 use Rattle.rules.specs.laws.Complete.{mine}
 use Rattle.rows.specs.Sizes.{upTo}
-use Rattle.memo.specs.Layout.{cellsTo}
+use Rattle.starts.specs.Starts.{cellsTo}
 use Rattle.shares.specs.declared.places.Place.{Place}
 use Rattle.shares.specs.declared.Share.{Share}
 use Rattle.shares.specs.declared.Span.{Span}

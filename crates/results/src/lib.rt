@@ -1,4 +1,3 @@
-// A pair's result: its price, the row that it goes to, and what that row keeps.
+// A pair's result: its price, and what its row keeps.
 pub mod keep;
 pub mod price;
-pub mod seek;

@@ -25,7 +25,8 @@ use Rattle.rules.specs.laws.Rows.{memo-only, below-all}
 use Rattle.rules.specs.laws.Refusals.{sound-of, crew-of, turns-of}
 use Rattle.memo.specs.declared.layout.Laid.{Laid}
 use Rattle.skips.specs.Vectors.{written}
-use Rattle.memo.specs.Layout.{starts, cellStarts, Lent, OneLength, Room, laid, LaidOut}
+use Rattle.starts.specs.Starts.{starts, cellStarts}
+use Rattle.memo.specs.Layout.{Lent, OneLength, Room, laid, LaidOut}
 use Rattle.memo.specs.LayoutLaws.{still-long, one-length}
 use Rattle.shares.specs.Shares.{shareOf}
 use Rattle.pairs.specs.PlaceLaws.{met-few}

@@ -6,7 +6,7 @@ use crew::nobody;
 use crew::whose::entries_on;
 use crew::whose::lowest;
 use crew::whose::whose_turn;
-use memo::columns::lay_starts;
+use starts::lay_starts;
 use memo::layout::lay_out;
 use refusals::check;
 use rows::tally::tally;

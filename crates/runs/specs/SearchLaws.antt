@@ -23,7 +23,7 @@ use Rattle.rules.specs.Log.{pairOf}
 use Rattle.rules.specs.Lists.{over}
 use Rattle.rules.specs.Answers.{Spared, shown, Logged}
 use Rattle.rules.specs.laws.Lists.{length-map, over-length}
-use Rattle.memo.specs.Layout.{starts, cellStarts}
+use Rattle.starts.specs.Starts.{starts, cellStarts}
 use Rattle.rules.specs.laws.Bools.{true-or-false, not-both}
 use Rattle.skips.specs.Vectors.{written}
 use Rattle.crew.specs.declared.Worker.{Worker}

@@ -11,7 +11,7 @@ use crew::nobody;
 use crew::whose::entries_on;
 use crew::whose::lowest;
 use crew::whose::whose_turn;
-use memo::columns::lay_starts;
+use starts::lay_starts;
 use rules::Scheme;
 use turns::open::open;
 use turns::scans::lay_scans;

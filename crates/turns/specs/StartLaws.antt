@@ -26,9 +26,9 @@ use Rattle.graph.specs.Walk.{walk}
 use Rattle.rows.specs.Sizes.{upTo}
 use Rattle.rows.specs.WalkLaws.{walk-hit, walk-few, walk-step, rows-start, upTo-none}
 use Rattle.skips.specs.Vectors.{written}
-use Rattle.memo.specs.Layout.{countsTo, starts, cellsTo, cellStarts}
+use Rattle.starts.specs.Starts.{countsTo, starts, cellsTo, cellStarts}
 use Rattle.memo.specs.LayoutLaws.{written-over, front, still-long}
-use Rattle.memo.specs.ColumnLaws.{written-push, counts-at, length-starts}
+use Rattle.starts.specs.CountLaws.{written-push, counts-at, length-starts}
 use Rattle.pairs.specs.Places.{startOf, Ground}
 use Rattle.pairs.specs.PlaceLaws.{start-next, start-memo, memo-row}
 use Rattle.results.specs.Prices.{Methods}

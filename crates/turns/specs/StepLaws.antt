@@ -31,7 +31,7 @@ use Rattle.rules.specs.laws.Handed.{JoinablePair}
 use Rattle.rules.specs.laws.Complete.{mine, met-joinable}
 use Rattle.rows.specs.Sizes.{upTo}
 use Rattle.skips.specs.SizeRows.{SizeRows, InOrder, Stands}
-use Rattle.memo.specs.FindLaws.{rows-sized, rows-in-order, rows-stand}
+use Rattle.lookup.specs.FindLaws.{rows-sized, rows-in-order, rows-stand}
 use Rattle.memo.specs.LayoutLaws.{rows-part}
 use Rattle.crew.specs.declared.Worker.{Worker}
 use Rattle.crew.specs.declared.Handed as code

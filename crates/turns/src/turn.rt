@@ -11,7 +11,7 @@ use crew::table::worker_at;
 use pairs::find::next_pair;
 use results::keep::keep;
 use results::price::price;
-use results::seek::seek;
+use lookup::seek::seek;
 
 // One worker after its turn, and the pair handed.
 pub struct Stepped {

@@ -6,8 +6,9 @@ use Rattle.rules.specs.Query.{graphOf}
 use Rattle.rows.specs.Sizes.{upTo}
 use Rattle.rows.specs.WalkLaws.{upTo-none}
 use Rattle.skips.specs.Vectors.{written}
-use Rattle.memo.specs.Layout.{cellsTo}
-use Rattle.memo.specs.LayoutLaws.{next-size, cells-start, cells-all, rows-next, rows-inside, cells-next-at, cells-inside, size-ready, wrote-size}
+use Rattle.starts.specs.Starts.{cellsTo}
+use Rattle.starts.specs.CountLaws.{cells-start}
+use Rattle.memo.specs.LayoutLaws.{next-size, cells-all, rows-next, rows-inside, cells-next-at, cells-inside, size-ready, wrote-size}
 use Rattle.memo.proofs.layout.lay_skips.Statement.{statement}
 use Rattle.memo.proofs.layout.lay_skips.Tie as tie
 

@@ -11,7 +11,7 @@ use lib.ListN.{length, replicate, set}
 use Rattle.rules.specs.Limits.{maxWorkers}
 use Rattle.rules.specs.Query.{graphOf}
 use Rattle.query.specs.Lists.{queryOf}
-use Rattle.memo.specs.Layout.{starts, cellStarts}
+use Rattle.starts.specs.Starts.{starts, cellStarts}
 use Rattle.turns.specs.Standing.{columns}
 use Rattle.turns.specs.QueueLaws.{stillMet}
 use Rattle.turns.specs.StepLaws.{ready-read}

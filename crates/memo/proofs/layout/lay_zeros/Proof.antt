@@ -3,9 +3,9 @@ use Prim.Native.Nat.{_-_, _≤_}
 use native.Mathlib.Omega.{arith}
 use lib.ListN.{length, length-set, replicate}
 use Rattle.skips.specs.Vectors.{written}
-use Rattle.memo.specs.ColumnLaws.{zeros-more}
-use Rattle.memo.proofs.columns.lay_zeros.Statement.{statement}
-use Rattle.memo.proofs.columns.lay_zeros.Tie as tie
+use Rattle.memo.specs.LayoutLaws.{zeros-more}
+use Rattle.memo.proofs.layout.lay_zeros.Statement.{statement}
+use Rattle.memo.proofs.layout.lay_zeros.Tie as tie
 
 abbrev Inv-loop : tie.InvT-loop
 Inv-loop count out₀ i₀ out i = (i ≤ count) × (length out ≡ length out₀) × (out ≡ written out₀ 0 (replicate i 0))

@@ -2,9 +2,9 @@ use mathlib.Core.Path.{sym, _∙_}
 use Prim.Native.Nat.{ℕ, _+_, _-_, _/_, _≤_}
 use native.Mathlib.Omega.{arith}
 use Rattle.skips.specs.SizeRows.{Stands}
-use Rattle.memo.specs.FindLaws.{look-behind, look-ahead}
-use Rattle.memo.proofs.find.row_of.Statement.{statement}
-use Rattle.memo.proofs.find.row_of.Tie as tie
+use Rattle.lookup.specs.FindLaws.{look-behind, look-ahead}
+use Rattle.lookup.proofs.find.row_of.Statement.{statement}
+use Rattle.lookup.proofs.find.row_of.Tie as tie
 
 abbrev Inv-loop : tie.InvT-loop
 Inv-loop sets from to s low₀ high₀ low high = (from ≤ low) × (low ≤ high) × (high ≤ to) × ((p : ℕ) → Stands sets from to s p → (low ≤ p) × (p ≤ high))

@@ -12,7 +12,7 @@ use Rattle.rules.specs.Rows.{before}
 use Rattle.rules.specs.laws.Bools.{not-both}
 use Rattle.sets.specs.Laws.{before-self}
 use Rattle.skips.specs.SizeRows.{SizeRows, InOrder, Stands}
-use Rattle.memo.specs.FindLaws.{look-behind, look-ahead}
+use Rattle.lookup.specs.FindLaws.{look-behind, look-ahead}
 
 -- a part of the rows of one size is such rows
 pub size-part : {sets : List ℕ} {from to low high k n : ℕ} → SizeRows sets from to k n → from ≤ low → low ≤ high → high ≤ to → SizeRows sets low high k n

@@ -1,22 +1,12 @@
-// The memo's columns beside its sets and estimates: cells that the search will fill, where the rows of each size begin.
+// Where the rows and the skip cells of each size begin.
 ghost use mathlib.Core.Path.{_≡_};
 ghost use Prim.Native.Nat.{_+_, _≤_};
-ghost use lib.ListN.{length, replicate};
+ghost use lib.ListN.{length};
 ghost use Rattle.rules.specs.Query.{graphOf};
 ghost use Rattle.rules.specs.Checked.{GoodGraph};
 ghost use Rattle.rows.specs.Tally.{Tally};
 ghost use Rattle.skips.specs.Vectors.{written};
-ghost use Rattle.memo.specs.Layout.{starts, cellStarts};
-
-// Clears the first `count` cells.
-pub fn lay_zeros(count: usize, out: &mut [u64])
-    requires { ⌜ count ≤ length (now out) ⌝ }
-    ensures { λ _. ⌜ now (out .exit) ≡ written (now (out .entry)) 0 (replicate count 0) ⌝ }
-{
-    for i in 0..count {
-        out[i] = 0;
-    }
-}
+ghost use Rattle.starts.specs.Starts.{starts, cellStarts};
 
 // Writes where the rows and the skip cells of each size begin: into cell k, how many rows and how many cells have sizes below k.
 pub fn lay_starts(

@@ -2,9 +2,9 @@ use mathlib.Core.Logic.{⊎-elim}
 use Prim.Native.Nat.{ℕ, _+_, _-_, _≤_, _<_}
 use native.Mathlib.Omega.{arith}
 use Rattle.skips.specs.SizeRows.{Stands}
-use Rattle.results.specs.SeekLaws.{size-part, order-part, look-found, look-after, look-before}
-use Rattle.results.proofs.seek.seek.Statement.{statement}
-use Rattle.results.proofs.seek.seek.Tie as tie
+use Rattle.lookup.specs.SeekLaws.{size-part, order-part, look-found, look-after, look-before}
+use Rattle.lookup.proofs.seek.seek.Statement.{statement}
+use Rattle.lookup.proofs.seek.seek.Tie as tie
 
 abbrev Inv-loop : tie.InvT-loop
 Inv-loop sets from to last s low₀ high₀ stride₀ low high stride = (from ≤ low) × (low ≤ high) × (low ≤ to) × (1 ≤ stride) × (stride ≤ high + 1) × ((p : ℕ) → Stands sets from to s p → low ≤ p)

@@ -1,8 +1,8 @@
 use native.Mathlib.Omega.{arith}
 use borrow.Author.Needs.{needs}
-use Rattle.results.specs.SeekLaws.{look-from}
-use Rattle.results.proofs.seek.begin.Statement.{statement}
-use Rattle.results.proofs.seek.begin.Tie as tie
+use Rattle.lookup.specs.SeekLaws.{look-from}
+use Rattle.lookup.proofs.seek.begin.Statement.{statement}
+use Rattle.lookup.proofs.seek.begin.Tie as tie
 
 returns : tie.Need-returns
 returns c = search needs

@@ -1,19 +1,23 @@
--- Laws of columns: one more store.
+-- Laws of where each size begins: one more store, one more size; what a reader finds.
 use mathlib.Core.Path.{_≡_, refl, ap, _∙_}
-use mathlib.Core.List.{List, [], _∷_, _++_}
+use mathlib.Core.List.{List, [], _∷_, _++_, append-nil}
 use Prim.Native.Nat.{ℕ, zero, suc, _+_, _*_, _≤_, _<_}
 use native.Mathlib.Nat.{mul-le-mul}
 use native.Mathlib.Decide.{decLt}
 use native.Mathlib.Omega.{arith}
 use native.Mathlib.Numerals.{add-one}
-use lib.ListN.{length, getD, set, length-append, replicate, length-replicate, replicate-append-replicate, List·getD-append}
+use lib.ListN.{length, getD, set, length-append, List·getD-append}
 use lib.Seq.{set-comm, getD-at}
 use Rattle.rules.specs.Limits.{maxTables}
+use Rattle.rules.specs.Lists.{inRow}
 use Rattle.rules.specs.Query.{Graph, tableCount}
 use Rattle.rules.specs.Rows.{rowsOf}
+use Rattle.rules.specs.Skips.{vectors}
+use Rattle.rules.specs.laws.Lists.{row-split}
 use Rattle.rows.specs.WalkLaws.{rows-fit}
+use Rattle.skips.specs.VectorLaws.{vectors-cells}
 use Rattle.skips.specs.Vectors.{written}
-use Rattle.memo.specs.Layout.{countsTo}
+use Rattle.starts.specs.Starts.{countsTo, cellsTo}
 
 -- one more store after a run of stores
 pub written-push : (d : List ℕ) (at i : ℕ) (p : List ℕ) (v : ℕ) → at + length p ≡ i → set (written d at p) i v ≡ written d at (p ++ v ∷ [])
@@ -24,12 +28,6 @@ written-push d at i (x ∷ p) v e = written-push (set d at x) (suc at) i p v (om
 store-ahead : (d : List ℕ) (i j v : ℕ) (p : List ℕ) → j < i → set (written d i p) j v ≡ written (set d j v) i p
 store-ahead d i j v [] h = refl
 store-ahead d i j v (x ∷ p) h = store-ahead (set d i x) (suc i) j v p (omega arith) ∙ ap (λ (l : List ℕ). written l (suc i) p) (set-comm d i j x v (λ e. omega arith))
-
--- a column of zeros: one more
-pub zeros-more : (d : List ℕ) (i : ℕ) {l : List ℕ} → l ≡ written d 0 (replicate i 0) → set l i 0 ≡ written d 0 (replicate (i + 1) 0)
-zeros-more d i e =
-    let z : ℕ = 0 in
-    rw e (written-push d 0 i (replicate i 0) 0 (omega (arith, length-replicate i z)) ∙ ap (written d 0) (replicate-append-replicate i 1 0))
 
 -- how many rows and cells a size has, at most
 pub count-fits : (g : Graph) (k : ℕ) {r : ℕ} → k < tableCount g → tableCount g ≤ maxTables → r ≡ length (rowsOf g (k + 1)) → (r ≤ 65536) × (r * (k + 1) ≤ 1048576)
@@ -71,3 +69,18 @@ module _ (f : ℕ → ℕ) where
 
 pub length-starts : (f : ℕ → ℕ) (n : ℕ) → length (0 ∷ countsTo f n) ≡ suc n
 length-starts f n = ap suc (length-counts f n)
+
+-- ---- the skip cells of the sizes 1 to k
+module _ (g : Graph) where
+  pub cells-start : cellsTo g 0 ≡ []
+  unfolding inRow
+  cells-start = refl
+
+  pub cells-size : (k : ℕ) → cellsTo g (k + 1) ≡ cellsTo g k ++ vectors g (k + 1)
+  unfolding inRow
+  cells-size k =
+      let e : 1 + k ≡ k + 1 = omega arith in
+      row-split (vectors g) 1 k 1 ∙ ap (λ (l : List ℕ). cellsTo g k ++ l) (append-nil (vectors g (1 + k)) ∙ ap (vectors g) e)
+
+  pub cells-count : (k : ℕ) {r : ℕ} → r ≡ length (rowsOf g (k + 1)) → length (cellsTo g (k + 1)) ≡ length (cellsTo g k) + r * (k + 1)
+  cells-count k e = omega (arith, ap (λ (x : ℕ). x * (k + 1)) e, vectors-cells g (k + 1), ap length (cells-size k), length-append (cellsTo g k) (vectors g (k + 1)))

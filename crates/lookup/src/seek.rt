@@ -3,7 +3,7 @@ ghost use mathlib.Core.Path.{_≡_};
 ghost use Prim.Native.Nat.{ℕ, _^_, _≤_, _<_};
 ghost use Rattle.rules.specs.Sets.{size};
 ghost use Rattle.skips.specs.SizeRows.{SizeRows, InOrder, Stands};
-use memo::find::row_of;
+use super::find::row_of;
 use sets::comes_first;
 
 // A row from which on `s` stands: `last` where that is one, else `from`.

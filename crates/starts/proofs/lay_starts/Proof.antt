@@ -6,11 +6,10 @@ use Rattle.rules.specs.Query.{graphOf}
 use Rattle.rows.specs.Sizes.{upTo}
 use Rattle.rows.specs.WalkLaws.{upTo-none, length-more}
 use Rattle.skips.specs.Vectors.{written}
-use Rattle.memo.specs.Layout.{cellsTo, countsTo}
-use Rattle.memo.specs.ColumnLaws.{count-fits, counts-none, counts-more, counts-end}
-use Rattle.memo.specs.LayoutLaws.{cells-start, cells-count}
-use Rattle.memo.proofs.columns.lay_starts.Statement.{statement}
-use Rattle.memo.proofs.columns.lay_starts.Tie as tie
+use Rattle.starts.specs.Starts.{cellsTo, countsTo}
+use Rattle.starts.specs.CountLaws.{count-fits, counts-none, counts-more, counts-end, cells-start, cells-count}
+use Rattle.starts.proofs.lay_starts.Statement.{statement}
+use Rattle.starts.proofs.lay_starts.Tie as tie
 
 abbrev Inv-loop : tie.InvT-loop
 Inv-loop rows left right divisors counts firsts₀ cells₀ row₀ cell₀ k₀ k-end firsts cells row cell k =

@@ -1,0 +1,3 @@
+-- The laws that the proofs cite.
+pub mod FindLaws
+pub mod SeekLaws
