@@ -1,16 +1,14 @@
 -- What laying out leaves.
 use mathlib.Core.Path.{_≡_}
-use mathlib.Core.List.{List, [], _∷_, _++_, map}
-use Prim.Native.Nat.{ℕ, zero, suc, _+_, _≤_, _<_}
+use mathlib.Core.List.{List, map}
+use Prim.Native.Nat.{ℕ, _≤_, _<_}
 use lib.ListN.{length, replicate}
-use Rattle.rules.specs.Lists.{inRow}
-use Rattle.rules.specs.Query.{Graph, tableCount}
+use Rattle.rules.specs.Query.{Graph}
 use Rattle.rules.specs.Estimate.{estimate}
 use Rattle.rules.specs.Rows.{memo}
-use Rattle.rules.specs.Skips.{vectors, skips}
+use Rattle.rules.specs.Skips.{skips}
 use Rattle.rules.specs.Refusals.{Memory}
 use Rattle.memo.specs.declared.layout.Laid.{Laid}
-use Rattle.rows.specs.Sizes.{upTo}
 use Rattle.skips.specs.Vectors.{written}
 
 -- what a caller lends to be laid out: the memo's columns and the skip cells

@@ -7,3 +7,4 @@ pub mod LeafLaws
 pub mod GroundLaws
 pub mod FindLaws
 pub mod FitLaws
+pub mod UniqueLaws

@@ -33,7 +33,8 @@ use Rattle.pairs.specs.PlaceLaws.{met-few}
 use Rattle.results.specs.Prices.{kept}
 use Rattle.crew.specs.declared.Worker.{Worker}
 use Rattle.crew.specs.declared.Handed as code
-use Rattle.turns.specs.Standing.{Columns, columns, choiceIn, Reach, Board, Ready, Crew, Opened, TurnTaken, Final}
+use Rattle.opening.specs.Opening.{Opened}
+use Rattle.turns.specs.Standing.{Columns, columns, choiceIn, Reach, Board, Ready, Crew, TurnTaken, Final}
 use Rattle.crew.specs.Workers.{nobody, workerAt}
 use Rattle.turns.specs.StandingLaws.{standing-open, standing-turn, standing-closed}
 use Rattle.turns.specs.QueueLaws.{waits-inside, stillMet, turn-progress, turn-progress-none}

@@ -15,7 +15,7 @@ use rules::Scheme;
 use sets::lowest_table;
 use sets::single;
 use shares::Share;
-use turns::open::open;
+use opening::open;
 use turns::scans::lay_scans;
 use turns::turn::turn;
 ghost use mathlib.Core.Path.{_≡_};

@@ -32,7 +32,8 @@ use Rattle.pairs.specs.Places.{metAt, queueAt}
 use Rattle.pairs.specs.PlaceLaws.{start-memo, start-end, met-few}
 use Rattle.pairs.specs.GroundLaws.{queue-all, next-queue}
 use Rattle.results.specs.Prices.{kept}
-use Rattle.turns.specs.Standing.{Columns, choiceIn, Reach, Ready, Crew, Opened, Handing, TurnTaken, Passed, Stood, FinalRow, Final, placesOf, Standing, queuesAt, handAt}
+use Rattle.opening.specs.Opening.{Opened}
+use Rattle.turns.specs.Standing.{Columns, choiceIn, Reach, Ready, Crew, Handing, TurnTaken, Passed, Stood, FinalRow, Final, placesOf, Standing, queuesAt, handAt}
 use Rattle.crew.specs.Workers.{nobody, workerAt}
 use Rattle.turns.specs.PassedLaws.{passed-joinable}
 use Rattle.turns.specs.StandingLaws.{choice-same, standing-open, standing-turn, standing-closed}

@@ -30,7 +30,8 @@ use Rattle.crew.specs.declared.Worker.{Worker}
 use Rattle.crew.specs.declared.Handed as code
 use Rattle.shares.specs.Shares.{few}
 use Rattle.pairs.specs.PlaceLaws.{start-memo}
-use Rattle.turns.specs.Standing.{Columns, columns, Reach, Ready, Board, Crew, Opened, TurnTaken}
+use Rattle.opening.specs.Opening.{Opened}
+use Rattle.turns.specs.Standing.{Columns, columns, Reach, Ready, Board, Crew, TurnTaken}
 use Rattle.crew.specs.Workers.{nobody, workerAt, countsOf}
 use Rattle.turns.specs.QueueLaws.{stillMet, turn-found, turn-progress, turn-progress-none}
 use Rattle.turns.specs.StepLaws.{step-costs, step-outers, step-methods}

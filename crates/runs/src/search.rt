@@ -13,7 +13,7 @@ use crew::whose::lowest;
 use crew::whose::whose_turn;
 use starts::lay_starts;
 use rules::Scheme;
-use turns::open::open;
+use opening::open;
 use turns::scans::lay_scans;
 use turns::turn::step;
 

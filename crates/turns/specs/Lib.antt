@@ -4,6 +4,5 @@ pub mod PassedLaws
 pub mod QueueLaws
 pub mod StandingLaws
 pub mod StepLaws
-pub mod OpenLaws
 pub mod StartLaws
 pub mod UniqueLaws

@@ -77,17 +77,6 @@ pub record Crew (g : Graph) (s : ℕ) (scheme : Scheme) (m : ℕ) (workers : Lis
   pub ready : (w : ℕ) → w < m → Ready g s (workerAt workers w)
   pub share : (w : ℕ) → w < m → workerAt workers w .share ≡ shareOf scheme m w (length (met g s))
 
--- the first k of m workers, each at its first joinable pair of result size s; the others as they were
-pub record Opening (g : Graph) (s : ℕ) (scheme : Scheme) (m k : ℕ) (old new : List Worker) : Type 0 where
-  pub length-kept : length new ≡ length old
-  pub first : (w : ℕ) → w < k → NextFrom g s (shareOf scheme m w (length (met g s))) 0 (workerAt new w .place)
-  pub worker : (w : ℕ) → w < k → workerAt new w ≡ record { share = shareOf scheme m w (length (met g s)); place = workerAt new w .place; last = startOf g s; handed = workerAt old w .handed }
-  pub others : (w : ℕ) → k ≤ w → workerAt new w ≡ workerAt old w
-
--- all of them
-abbrev pub Opened : Graph → ℕ → Scheme → ℕ → List Worker → List Worker → Type 0
-Opened g s scheme m old new = Opening g s scheme m m old new
-
 -- ---- a turn
 -- the pair of the worker's place
 abbrev pub setsOf : Numbered → Pair

@@ -2,8 +2,8 @@
 use mathlib.Core.Path.{_≡_, refl, sym, ap, _∙_, subst}
 use mathlib.Core.Logic.{_⊎_, inl, inr, ⊎-elim}
 use mathlib.Core.Bool.{true, false}
-use mathlib.Core.List.{List, [], _∷_}
-use Prim.Native.Nat.{ℕ, zero, suc, _+_, _-_, _≤_, _<_}
+use mathlib.Core.List.{List}
+use Prim.Native.Nat.{ℕ, _+_, _-_, _≤_, _<_}
 use native.Mathlib.Nat.{add-comm}
 use native.Mathlib.Decide.{decLt, ℕ-discrete}
 use native.Mathlib.Omega.{arith}
@@ -22,7 +22,7 @@ use Rattle.rules.specs.Shares.{Numbered, met, owns}
 use Rattle.rules.specs.Log.{Pair, pairOf, union}
 use Rattle.rules.specs.Checked.{Sound}
 use Rattle.rules.specs.laws.Bools.{true-or-false, and-true, not-both}
-use Rattle.rules.specs.laws.Lists.{Once, at-in, in-at}
+use Rattle.rules.specs.laws.Lists.{at-in, in-at}
 use Rattle.rules.specs.laws.Choice.{Choice, NoLater, Best, best-same}
 use Rattle.rules.specs.laws.Candidates.{Has, numbered-in}
 use Rattle.rules.specs.laws.Connected.{joinable-sym, connected-split, connected-single}
@@ -37,6 +37,7 @@ use Rattle.shares.specs.declared.places.Place.{Place}
 use Rattle.crew.specs.declared.Handed as code
 use Rattle.shares.specs.Shares.{shareOf}
 use Rattle.pairs.specs.Places.{startOf, metAt, noCandidate, At, ownAt, NextFrom}
+use Rattle.pairs.specs.UniqueLaws.{once-at}
 use Rattle.pairs.specs.PlaceLaws.{start-next, start-mono, start-memo, memo-row}
 use Rattle.pairs.specs.GroundLaws.{at-number}
 use Rattle.results.specs.Prices.{kept, BothWays}
@@ -46,14 +47,6 @@ use Rattle.turns.specs.Standing.{Columns, choiceIn, stored, Reach, Ready
 use Rattle.crew.specs.Workers.{workerAt}
 
 -- ---- rows of the memo
-pub once-at : (l : List ℕ) → Once l → (i j : ℕ) → i < length l → j < length l → getD l i 0 ≡ getD l j 0 → i ≡ j
-unfolding Once
-once-at [] o i j a b e = absurd (omega arith)
-once-at (x ∷ l) o zero zero a b e = refl
-once-at (x ∷ l) o zero (suc j) a b e = absurd (o .0 (rw e (at-in 0 l j (omega arith))))
-once-at (x ∷ l) o (suc i) zero a b e = absurd (o .0 (rw (sym e) (at-in 0 l i (omega arith))))
-once-at (x ∷ l) o (suc i) (suc j) a b e = ap suc (once-at l (o .1) i j (omega arith) (omega arith) e)
-
 -- a row's set is connected
 row-connected : (g : Graph) (r : ℕ) → r < length (memo g) → Connected g (getD (memo g) r 0)
 row-connected g r l = memo-only g (getD (memo g) r 0) (at-in 0 (memo g) r l)

@@ -1,4 +1,3 @@
-// One turn: its worker's next joinable pair is handed and priced, and the worker goes on to the next. Opening a size.
-pub mod open;
+// One turn: its worker's next joinable pair is handed and priced, and the worker goes on to the next. What stands before the first.
 pub mod scans;
 pub mod turn;

@@ -5,7 +5,7 @@ ghost use Rattle.rules.specs.Limits.{maxWorkers};
 ghost use Rattle.rules.specs.Query.{graphOf};
 ghost use Rattle.rules.specs.Checked.{GoodGraph};
 ghost use Rattle.pairs.specs.Places.{Ground};
-ghost use Rattle.turns.specs.Standing.{Opened};
+ghost use Rattle.opening.specs.Opening.{Opened};
 use crew::Worker;
 use crew::table::with_worker;
 use crew::table::worker_at;

@@ -5,10 +5,10 @@ use lib.ListN.{length}
 use Rattle.rules.specs.Query.{graphOf}
 use Rattle.pairs.specs.PlaceLaws.{met-few}
 use Rattle.pairs.specs.GroundLaws.{sizes-fit, count-met}
-use Rattle.turns.specs.Standing.{Opening}
-use Rattle.turns.specs.OpenLaws.{share-is, share-ready, opening-none, opening-more}
-use Rattle.turns.proofs.open.open.Statement.{statement}
-use Rattle.turns.proofs.open.open.Tie as tie
+use Rattle.opening.specs.Opening.{Opening}
+use Rattle.opening.specs.OpenLaws.{share-is, share-ready, opening-none, opening-more}
+use Rattle.opening.proofs.open.Statement.{statement}
+use Rattle.opening.proofs.open.Tie as tie
 
 abbrev Inv-loop : tie.InvT-loop
 Inv-loop rows left right divisors sets skips starts cells s scheme count total next₀ w₀ next w =

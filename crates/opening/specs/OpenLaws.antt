@@ -1,11 +1,11 @@
 -- Opening a size, worker by worker.
-use mathlib.Core.Path.{_≡_, refl, ap, _∙_}
+use mathlib.Core.Path.{_≡_, refl, sym, ap, _∙_}
 use mathlib.Core.List.{List}
 use Prim.Native.Nat.{ℕ, _+_, _≤_, _<_}
-use native.Mathlib.Decide.{ℕ-discrete}
+use native.Mathlib.Decide.{ℕ-discrete, decLt}
 use native.Mathlib.Omega.{arith}
 use lib.ListN.{length, set, length-set}
-use lib.Seq.{getD-set-same, getD-set-other}
+use lib.Seq.{getD-set-same, getD-set-other, ext-getD}
 use Rattle.rules.specs.Limits.{maxWorkers}
 use Rattle.rules.specs.declared.Scheme.{Scheme}
 use Rattle.rules.specs.Query.{Graph}
@@ -14,9 +14,10 @@ use Rattle.shares.specs.declared.places.Place.{Place}
 use Rattle.shares.specs.declared.Share.{Share}
 use Rattle.shares.specs.Shares.{shareOf, ShareOf}
 use Rattle.pairs.specs.Places.{startOf, NextFrom}
+use Rattle.pairs.specs.UniqueLaws.{next-unique}
 use Rattle.crew.specs.declared.Worker.{Worker}
 use Rattle.crew.specs.Workers.{nobody, workerAt}
-use Rattle.turns.specs.Standing.{Opening}
+use Rattle.opening.specs.Opening.{Opening, Opened}
 
 -- a worker's share of the size
 pub share-is : (g : Graph) (s : ℕ) (scheme : Scheme) (m w : ℕ) {total : ℕ} {h : Share} → total ≡ length (met g s) → h ≡ shareOf scheme m w total → h ≡ shareOf scheme m w (length (met g s))
@@ -58,3 +59,13 @@ module _ (g : Graph) (s : ℕ) (scheme : Scheme) (m : ℕ) (old : List Worker) w
   pub opening-more : {new : List Worker} (k : ℕ) (h : Share) (p : Place) (from : ℕ) (v : Worker) (next : List Worker) → v ≡ workerAt new k → next ≡ set new k (record { share = h; place = p; last = from; handed = v .handed })
       → Opening g s scheme m k old new → k < length old → h ≡ shareOf scheme m k (length (met g s)) → NextFrom g s h 0 p → from ≡ startOf g s → Opening g s scheme m (k + 1) old next
   opening-more k h p from v next i r z l e n f = rw (r, i) (opening-set k h p from z l e n f)
+
+-- a size is opened in one way
+pub opened-unique : {g : Graph} {s : ℕ} {scheme : Scheme} {m : ℕ} {old new new′ : List Worker} → Opened g s scheme m old new → Opened g s scheme m old new′ → new ≡ new′
+opened-unique {g} {s} {scheme} {m} {old} {new} {new′} z z′ = ext-getD nobody new new′ (z .length-kept ∙ sym (z′ .length-kept)) (λ w l. go w (decLt w m))
+  where
+    go : (w : ℕ) → Dec (w < m) → workerAt new w ≡ workerAt new′ w
+    go w (yes l) =
+        let p = next-unique (z .first w l) (z′ .first w l) in
+        z .worker w l ∙ (λ t. record { share = shareOf scheme m w (length (met g s)); place = p t; last = startOf g s; handed = workerAt old w .handed }) ∙ sym (z′ .worker w l)
+    go w (no n) = z .others w (omega arith) ∙ sym (z′ .others w (omega arith))
