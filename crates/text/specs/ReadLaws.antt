@@ -4,7 +4,7 @@ use mathlib.Core.List.{List}
 use Prim.Native.Nat.{ℕ, _-_, _^_, _≤_, _<_}
 use native.Mathlib.Decide.{ℕ-discrete}
 use native.Mathlib.Omega.{arith}
-use lib.ListN.{length, take}
+use lib.ListN.{length, take, replicate, length-replicate}
 use Rattle.rules.specs.declared.Verdict.{Verdict}
 use Rattle.rules.specs.Limits.{answerRoom}
 use Rattle.rules.specs.Lists.{over}
@@ -20,6 +20,10 @@ use Rattle.fields.specs.declared.kinds.Progress.{Progress}
 use Rattle.reader.specs.Records.{readOf}
 use Rattle.writer.specs.Put.{Put}
 use Rattle.text.specs.Composing.{Composed}
+
+-- a column of n cells, as it was read into, holds what was read
+pub held : {r l : ℕ} (n : ℕ) → r ≤ n → l ≡ length {A = ℕ} (replicate n 0) → r ≤ l
+held n h e = let z : ℕ = 0 in omega (arith, length-replicate n z)
 
 -- ---- a text that is not good
 pub read-refused : (text : List ℕ) {v : Verdict} {s : Read} {before after : List ℕ} {r : ℕ} → record { verdict = v; read = s } ≡ reading text → (v .number ≡ 0 → ⊥) → v .number < 10 ^ 20 → v .place < 10 ^ 20

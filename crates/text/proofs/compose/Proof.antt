@@ -1,17 +1,14 @@
-use Prim.Native.Nat.{_^_, _≤_, _<_}
+use Prim.Native.Nat.{_^_, _<_, zero-le}
 use native.Mathlib.Omega.{arith}
 use borrow.Author.Needs.{needs}
 use Rattle.text.specs.PlanLaws.{refusal-fits}
-use Rattle.text.specs.ReadLaws.{read-refused, read-planned}
+use Rattle.text.specs.ReadLaws.{held, read-refused, read-planned}
 use Rattle.text.proofs.compose.Statement.{statement}
 use Rattle.text.proofs.compose.Tie as tie
 
 -- the verdict's numbers have at most 20 digits
 short : (c : tie.After-struct-known) → (c .before .before .before .before .before .before .before .before .before .before .read .result .verdict .number < 10 ^ 20) × (c .before .before .before .before .before .before .before .before .before .before .read .result .verdict .place < 10 ^ 20)
 short c = (omega arith, omega arith)
-
-few-methods : (c : tie.After-struct-known) → c .before .before .before .before .before .before .before .before .before .before .read .result .progress .methods ≤ 4
-few-methods c = c .before .before .before .before .before .before .before .before .before .before .read .ensures .1 .1 .methods
 
 slice-aggregate-read : tie.Need-slice-aggregate-read
 slice-aggregate-read c = search needs
@@ -57,85 +54,85 @@ returns c =
     read-refused (c .before .before .before .before .before .before .before .before .before .before .before .before .before .before .before .before .before .before .before .before .before .before .before .before .before .before .before .args .text .now) (c .before .before .before .before .before .before .before .before .before .before .before .before .before .before .before .read .ensures .0) (c .before .before .before .before .if1 .taken) (k .0) (k .1) (c .before .before .put-refusal .ensures)
 
 sub-plan-read : tie.Need-sub-plan-read
-sub-plan-read c = search needs
+sub-plan-read c = zero-le
 
 part-plan-read-start : tie.Need-part-plan-read-start
-part-plan-read-start c = search needs
+part-plan-read-start c = zero-le
 
 part-plan-read-end : tie.Need-part-plan-read-end
-part-plan-read-end c = search needs
+part-plan-read-end c = held 16 (c .before .before .before .before .before .before .before .before .before .before .before .before .before .read .ensures .1 .1 .tables) (c .before .before .before .before .before .before .before .before .before .before .before .before .before .read .ensures .1 .0 .rows-spare .length-kept)
 
 sub-plan-read-2 : tie.Need-sub-plan-read-2
-sub-plan-read-2 c = search needs
+sub-plan-read-2 c = zero-le
 
 part-plan-read-start-2 : tie.Need-part-plan-read-start-2
-part-plan-read-start-2 c = search needs
+part-plan-read-start-2 c = zero-le
 
 part-plan-read-end-2 : tie.Need-part-plan-read-end-2
-part-plan-read-end-2 c = search needs
+part-plan-read-end-2 c = held 16 (c .before .before .before .before .before .before .before .before .before .before .before .before .before .before .before .read .ensures .1 .1 .tables) (c .before .before .before .before .before .before .before .before .before .before .before .before .before .before .before .read .ensures .1 .0 .scans-spare .length-kept)
 
 sub-plan-read-3 : tie.Need-sub-plan-read-3
-sub-plan-read-3 c = search needs
+sub-plan-read-3 c = zero-le
 
 part-plan-read-start-3 : tie.Need-part-plan-read-start-3
-part-plan-read-start-3 c = search needs
+part-plan-read-start-3 c = zero-le
 
 part-plan-read-end-3 : tie.Need-part-plan-read-end-3
-part-plan-read-end-3 c = search needs
+part-plan-read-end-3 c = held 120 (c .before .before .before .before .before .before .before .before .before .before .before .before .before .before .before .before .before .read .ensures .1 .1 .edges) (c .before .before .before .before .before .before .before .before .before .before .before .before .before .before .before .before .before .read .ensures .1 .0 .left-spare .length-kept)
 
 sub-plan-read-4 : tie.Need-sub-plan-read-4
-sub-plan-read-4 c = search needs
+sub-plan-read-4 c = zero-le
 
 part-plan-read-start-4 : tie.Need-part-plan-read-start-4
-part-plan-read-start-4 c = search needs
+part-plan-read-start-4 c = zero-le
 
 part-plan-read-end-4 : tie.Need-part-plan-read-end-4
-part-plan-read-end-4 c = search needs
+part-plan-read-end-4 c = held 120 (c .before .before .before .before .before .before .before .before .before .before .before .before .before .before .before .before .before .before .before .read .ensures .1 .1 .edges) (c .before .before .before .before .before .before .before .before .before .before .before .before .before .before .before .before .before .before .before .read .ensures .1 .0 .right-spare .length-kept)
 
 sub-plan-read-5 : tie.Need-sub-plan-read-5
-sub-plan-read-5 c = search needs
+sub-plan-read-5 c = zero-le
 
 part-plan-read-start-5 : tie.Need-part-plan-read-start-5
-part-plan-read-start-5 c = search needs
+part-plan-read-start-5 c = zero-le
 
 part-plan-read-end-5 : tie.Need-part-plan-read-end-5
-part-plan-read-end-5 c = search needs
+part-plan-read-end-5 c = held 120 (c .before .before .before .before .before .before .before .before .before .before .before .before .before .before .before .before .before .before .before .before .before .read .ensures .1 .1 .edges) (c .before .before .before .before .before .before .before .before .before .before .before .before .before .before .before .before .before .before .before .before .before .read .ensures .1 .0 .divisors-spare .length-kept)
 
 sub-plan-read-6 : tie.Need-sub-plan-read-6
-sub-plan-read-6 c = search needs
+sub-plan-read-6 c = zero-le
 
 part-plan-read-start-6 : tie.Need-part-plan-read-start-6
-part-plan-read-start-6 c = search needs
+part-plan-read-start-6 c = zero-le
 
 part-plan-read-end-6 : tie.Need-part-plan-read-end-6
-part-plan-read-end-6 c = search needs
+part-plan-read-end-6 c = held 4 (c .before .before .before .before .before .before .before .before .before .before .before .before .before .before .before .before .before .before .before .before .before .before .before .read .ensures .1 .1 .methods) (c .before .before .before .before .before .before .before .before .before .before .before .before .before .before .before .before .before .before .before .before .before .before .before .read .ensures .1 .0 .fixed-spare .length-kept)
 
 sub-plan-read-7 : tie.Need-sub-plan-read-7
-sub-plan-read-7 c = search needs
+sub-plan-read-7 c = zero-le
 
 part-plan-read-start-7 : tie.Need-part-plan-read-start-7
-part-plan-read-start-7 c = search needs
+part-plan-read-start-7 c = zero-le
 
 part-plan-read-end-7 : tie.Need-part-plan-read-end-7
-part-plan-read-end-7 c = omega (arith, few-methods (c .before .before .before .before .before .before .before .before .before .before .before .before .before .before .before), c .before .before .before .before .before .before .before .before .before .before .before .before .before .before .before .before .before .before .before .before .before .before .before .before .before .read .ensures .1 .0 .outer-spare .length-kept)
+part-plan-read-end-7 c = held 4 (c .before .before .before .before .before .before .before .before .before .before .before .before .before .before .before .before .before .before .before .before .before .before .before .before .before .read .ensures .1 .1 .methods) (c .before .before .before .before .before .before .before .before .before .before .before .before .before .before .before .before .before .before .before .before .before .before .before .before .before .read .ensures .1 .0 .outer-spare .length-kept)
 
 sub-plan-read-8 : tie.Need-sub-plan-read-8
-sub-plan-read-8 c = search needs
+sub-plan-read-8 c = zero-le
 
 part-plan-read-start-8 : tie.Need-part-plan-read-start-8
-part-plan-read-start-8 c = search needs
+part-plan-read-start-8 c = zero-le
 
 part-plan-read-end-8 : tie.Need-part-plan-read-end-8
-part-plan-read-end-8 c = omega (arith, few-methods (c .before .before .before .before .before .before .before .before .before .before .before .before .before .before .before .before .before), c .before .before .before .before .before .before .before .before .before .before .before .before .before .before .before .before .before .before .before .before .before .before .before .before .before .before .before .read .ensures .1 .0 .inner-spare .length-kept)
+part-plan-read-end-8 c = held 4 (c .before .before .before .before .before .before .before .before .before .before .before .before .before .before .before .before .before .before .before .before .before .before .before .before .before .before .before .read .ensures .1 .1 .methods) (c .before .before .before .before .before .before .before .before .before .before .before .before .before .before .before .before .before .before .before .before .before .before .before .before .before .before .before .read .ensures .1 .0 .inner-spare .length-kept)
 
 sub-plan-read-9 : tie.Need-sub-plan-read-9
-sub-plan-read-9 c = search needs
+sub-plan-read-9 c = zero-le
 
 part-plan-read-start-9 : tie.Need-part-plan-read-start-9
-part-plan-read-start-9 c = search needs
+part-plan-read-start-9 c = zero-le
 
 part-plan-read-end-9 : tie.Need-part-plan-read-end-9
-part-plan-read-end-9 c = omega (arith, few-methods (c .before .before .before .before .before .before .before .before .before .before .before .before .before .before .before .before .before .before .before), c .before .before .before .before .before .before .before .before .before .before .before .before .before .before .before .before .before .before .before .before .before .before .before .before .before .before .before .before .before .read .ensures .1 .0 .result-spare .length-kept)
+part-plan-read-end-9 c = held 4 (c .before .before .before .before .before .before .before .before .before .before .before .before .before .before .before .before .before .before .before .before .before .before .before .before .before .before .before .before .before .read .ensures .1 .1 .methods) (c .before .before .before .before .before .before .before .before .before .before .before .before .before .before .before .before .before .before .before .before .before .before .before .before .before .before .before .before .before .read .ensures .1 .0 .result-spare .length-kept)
 
 plan-read-requires : tie.Need-plan-read-requires
 plan-read-requires c κs = c .before .before .before .before .before .before .before .before .before .before .before .before .before .before .before .before .before .before .before .before .before .before .before .before .before .before .before .before .before .before .before .before .before .before .before .before .before .before .before .before .before .before .pre
