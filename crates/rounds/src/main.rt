@@ -10,7 +10,6 @@ use starts::lay_starts;
 use memo::layout::lay_out;
 use refusals::check;
 use rows::tally::tally;
-use rules::NewScheme;
 use rules::Scheme;
 use sets::lowest_table;
 use sets::single;
@@ -288,8 +287,8 @@ fn run_sizes(
     }
 }
 
-// Checks a query and its crew, and lays out its memo with the scan costs.
-fn lay(
+// Checks a query and its crew, lays out its memo with the scan costs, and takes the turns of its sizes.
+fn play(
     rows: &[u64],
     scans: &[u64],
     left: &[u64],
@@ -300,7 +299,7 @@ fn lay(
     inner: &[u64],
     result: &[u64],
     workers: u64,
-    scheme: u64,
+    scheme: Scheme,
     turns: &[u64],
     sets: &mut [u64],
     estimates: &mut [u64],
@@ -310,9 +309,8 @@ fn lay(
     skips: &mut [u64],
     starts: &mut [usize],
     cells: &mut [usize],
-) -> bool
+)
     requires { ⌜ (length (now rows) + 2 ≤ length (now starts)) × (length (now rows) + 2 ≤ length (now cells)) ⌝ }
-    ensures { λ r. ⌜ (r ≡ true → Started (queryOf (now (rows .entry)) (now (scans .entry)) (now (left .entry)) (now (right .entry)) (now (divisors .entry)) (now (fixed .entry)) (now (outer .entry)) (now (inner .entry)) (now (result .entry))) workers (now (turns .entry)) (now (sets .exit)) (now (estimates .exit)) (now (skips .exit)) (now (starts .exit)) (now (cells .exit)) (columns (now (costs .exit)) (now (outers .exit)) (now (methods .exit)))) ⌝ }
 {
     let verdict = check(
         rows,
@@ -325,7 +323,7 @@ fn lay(
         inner,
         result,
         workers,
-        scheme,
+        scheme.number(),
         turns,
         sets.len(),
         estimates.len(),
@@ -338,7 +336,7 @@ fn lay(
         0,
     );
     if verdict.number != 0 {
-        return false;
+        return;
     }
     let counts = tally(rows, left, right, divisors);
     let laid = lay_out(
@@ -355,15 +353,38 @@ fn lay(
         skips,
     );
     if laid.refusal != 0 {
-        return false;
+        return;
     }
     lay_starts(rows, left, right, divisors, &counts, starts, cells);
     lay_scans(scans, costs);
-    true
+    run_sizes(
+        rows,
+        scans,
+        left,
+        right,
+        divisors,
+        fixed,
+        outer,
+        inner,
+        result,
+        sets,
+        estimates,
+        costs,
+        outers,
+        methods,
+        skips,
+        starts,
+        cells,
+        scheme,
+        workers as usize,
+        turns,
+    );
 }
 
-// Document 01's query under a scheme with so many workers and a list of turns.
-fn run(scheme: u64, workers: u64, turns: &[u64]) {
+// Document 01's query under a scheme with so many workers and so many turns of worker 1 listed.
+fn run(scheme: Scheme, workers: u64, listed: usize)
+    requires { ⌜ listed ≤ 2 ⌝ }
+{
     let rows = [100, 10, 1000];
     let scans = [100, 10, 1000];
     let left = [1, 2];
@@ -373,6 +394,7 @@ fn run(scheme: u64, workers: u64, turns: &[u64]) {
     let outer = [1, 1];
     let inner = [2, 1];
     let result = [1, 1];
+    let turns = [1u64; 2];
     let mut sets = [0u64; 6];
     let mut estimates = [0u64; 6];
     let mut costs = [0u64; 6];
@@ -381,12 +403,7 @@ fn run(scheme: u64, workers: u64, turns: &[u64]) {
     let mut skips = [0u64; 10];
     let mut starts = [0usize; 5];
     let mut cells = [0usize; 5];
-    put(b"scheme ");
-    io::print_decimal(STDOUT, scheme);
-    put(b" workers ");
-    io::print_decimal(STDOUT, workers);
-    put(b"\n");
-    if !lay(
+    play(
         &rows,
         &scans,
         &left,
@@ -398,7 +415,7 @@ fn run(scheme: u64, workers: u64, turns: &[u64]) {
         &result,
         workers,
         scheme,
-        turns,
+        &turns[0..listed],
         &mut sets,
         &mut estimates,
         &mut costs,
@@ -407,54 +424,34 @@ fn run(scheme: u64, workers: u64, turns: &[u64]) {
         &mut skips,
         &mut starts,
         &mut cells,
-    ) {
-        return;
-    }
-    match Scheme::from_number(scheme) {
-        NewScheme::Good(k) => {
-            run_sizes(
-                &rows,
-                &scans,
-                &left,
-                &right,
-                &divisors,
-                &fixed,
-                &outer,
-                &inner,
-                &result,
-                &sets,
-                &estimates,
-                &mut costs,
-                &mut outers,
-                &mut methods,
-                &skips,
-                &starts,
-                &cells,
-                k,
-                workers as usize,
-                turns,
-            );
-        }
-        NewScheme::Unknown => {}
-    }
+    );
 }
 
-// A scheme's four crews; C5's, two workers under scheme 3, has the list of turns 1,1.
-fn crews(scheme: u64) {
-    let list = [1u64; 2];
-    run(scheme, 1, &list[0..0]);
-    if scheme == 3 {
-        run(scheme, 2, &list);
-    } else {
-        run(scheme, 2, &list[0..0]);
-    }
-    run(scheme, 3, &list[0..0]);
-    run(scheme, 8, &list[0..0]);
+fn run_named(scheme: Scheme, workers: u64, listed: usize)
+    requires { ⌜ listed ≤ 2 ⌝ }
+{
+    put(b"scheme ");
+    io::print_decimal(STDOUT, scheme.number());
+    put(b" workers ");
+    io::print_decimal(STDOUT, workers);
+    put(b"\n");
+    run(scheme, workers, listed);
 }
 
+// A scheme's four crews, the second with a list of turns.
+fn crews(scheme: Scheme, listed: usize)
+    requires { ⌜ listed ≤ 2 ⌝ }
+{
+    run_named(scheme, 1, 0);
+    run_named(scheme, 2, listed);
+    run_named(scheme, 3, 0);
+    run_named(scheme, 8, 0);
+}
+
+// C5's crew, two workers under scheme 3, has the list of turns 1,1.
 fn main() {
-    crews(1);
-    crews(2);
-    crews(3);
-    crews(4);
+    crews(Scheme::CutCandidates, 0);
+    crews(Scheme::CutRows, 0);
+    crews(Scheme::DealRows, 2);
+    crews(Scheme::DealInner, 0);
 }
