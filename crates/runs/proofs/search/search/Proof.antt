@@ -19,7 +19,7 @@ use Rattle.turns.specs.StartLaws.{Prepared}
 use Rattle.crew.specs.Workers.{workerAt}
 use Rattle.crew.specs.Logs.{logOf}
 use Rattle.runs.specs.Runs.{Between, Underway, Carried}
-use Rattle.runs.specs.HandLaws.{InHand, hand-start, hand-changed, hand-kept, put-down, hand-turn, hand-lowest}
+use Rattle.runs.specs.HandLaws.{InHand, hand-start, hand-changed, hand-kept, put-down, hand-turn, hand-lowest, kept-less, down-less, kept-next, down-next}
 use Rattle.runs.specs.SearchLaws.{in-table, in-memory, scans-fit, between-start, between-end, prepared, nobodies, within-open, within-closed, within-few, within-board, within-ready, whose-known, within-less, carried-start, carried-turn, underway-turn, two-of, size-of, below-eight, below-two, few-pairs, starts-room, size-fits, less-size, all-sizes, laid-length, logged-lengths}
 use Rattle.runs.proofs.search.search.Statement.{statement}
 use Rattle.runs.proofs.search.search.Tie as tie
@@ -199,71 +199,48 @@ lowest-requires-2 c κs = c .before .before .before .before .before .before .bef
 
 loop2-less : tie.Need-loop2-less Inv-loop2 μ-loop2 Inv-loop μ-loop
 loop2-less c =
-    let loop2-test′ = c .before .before .before .before .before .before .before .before .before .before .before .before .before .before .before .before .before .before .before .before .before .before .before .before .before .before .before .before .before .before .before .before .before .before .loop2-test in
-    let whose-turn′ = c .before .before .before .before .before .before .before .before .before .before .before .before .before .before .before .before .before .before .before .before .before .before .before .before .before .before .before .before .before .before .before .before .before .whose-turn in
-    let step′ = c .before .before .before .before .before .before .before .before .before .before .before .before .before .before .before .before .before .before .before .before .before .before .before .before .before .before .step in
-    let z = c .before .before .before .before .before .before .before .before .before .before .before .before .before .before .before .before .before .before .before .before .before .before .before .before .before .before .before .before .before .before .before .before .before .before .before .before .before .before .before .before .before .before .before .before .before .before .before .before .before .before .before .before .before .before .before .before .before .before .before .before .before .before .before .before .before .before .before .before .before .before .before .before .before .before .pre .0 in
-    let m = c .before .before .before .before .before .before .before .before .before .before .before .before .before .before .before .before .before .before .before .before .before .before .before .before .before .before .before .before .before .before .before .before .before .before .before .loop2 in
-    let u = m .inv .5 in
-    let k = below-eight (whose-known (z .sound) (m .inv .1) (m .inv .2) (u .lent-fits) (z .turns-known) (u .within) (loop2-test′ .taken) (whose-turn′ .ensures)) (z .few-workers) in
-    let t = hand-turn (in-table (set (m .workers) (m .held) (m .worker)) k (u .within .running .tally .table)) (in-hand (c .before .before .before .before .before .before .before .before .before .before .before .before .before .before .before .before .before .before .before .before .before .before .before .before .before .before .before .before .before .before .before .before)) (step′ .ensures) in
-    rw (put-down (c .before .before .before .before .before .before .before .before .before .before .before .before .before .before .before .before .before .before .before .before .before .before .before .before .before .before .before .before .before .before .before .before .if1 .workers) (c .before .before .before .before .before .before .before .before .before .before .before .before .before .before .before .before .before .before .before .before .before .before .before .before .before .before .before .before .before .before .before .before .if1 .held) (step′ .result .worker), c .before .before .before .before .entries-on .ensures) (within-less (z .sound) (m .inv .1) (m .inv .2) (u .lent-fits) (z .turns-known) (u .within) (loop2-test′ .taken) (whose-turn′ .ensures) t)
+    let j = c .before .before .before .before .before .before .before .before .before .before .before .before .before .before .before .before .before .before .before .before .before .before .before .before .before .before .before .before .before .before .before .before in
+    let z = j .before .before .before .before .before .before .before .before .before .before .before .before .before .before .before .before .before .before .before .before .before .before .before .before .before .before .before .before .before .before .before .before .before .before .before .before .before .before .before .before .before .before .pre .0 in
+    let m = j .before .before .before .loop2 in
+    down-less (z .sound) (m .inv .1) (m .inv .2) (z .few-workers) (z .turns-known) (m .inv .5) (j .before .before .loop2-test .taken) (j .before .whose-turn .ensures) (in-hand j) (c .before .before .before .before .before .before .before .before .before .before .before .before .before .before .before .before .before .before .before .before .before .before .before .before .before .before .step .ensures) (c .before .before .before .before .entries-on .ensures)
 
 loop2-again : tie.Need-loop2-again Inv-loop2 μ-loop2 Inv-loop μ-loop
 loop2-again c =
-    let loop2-test′ = c .before .before .before .before .before .before .before .before .before .before .before .before .before .before .before .before .before .before .before .before .before .before .before .before .before .before .before .before .before .before .before .before .before .before .loop2-test in
-    let whose-turn′ = c .before .before .before .before .before .before .before .before .before .before .before .before .before .before .before .before .before .before .before .before .before .before .before .before .before .before .before .before .before .before .before .before .before .whose-turn in
-    let step′ = c .before .before .before .before .before .before .before .before .before .before .before .before .before .before .before .before .before .before .before .before .before .before .before .before .before .before .step in
-    let entries-on′ = c .before .before .before .before .entries-on in
-    let z = c .before .before .before .before .before .before .before .before .before .before .before .before .before .before .before .before .before .before .before .before .before .before .before .before .before .before .before .before .before .before .before .before .before .before .before .before .before .before .before .before .before .before .before .before .before .before .before .before .before .before .before .before .before .before .before .before .before .before .before .before .before .before .before .before .before .before .before .before .before .before .before .before .before .before .pre .0 in
-    let m = c .before .before .before .before .before .before .before .before .before .before .before .before .before .before .before .before .before .before .before .before .before .before .before .before .before .before .before .before .before .before .before .before .before .before .before .loop2 in
-    let u = m .inv .5 in
-    let k = below-eight (whose-known (z .sound) (m .inv .1) (m .inv .2) (u .lent-fits) (z .turns-known) (u .within) (loop2-test′ .taken) (whose-turn′ .ensures)) (z .few-workers) in
-    let t = hand-turn (in-table (set (m .workers) (m .held) (m .worker)) k (u .within .running .tally .table)) (in-hand (c .before .before .before .before .before .before .before .before .before .before .before .before .before .before .before .before .before .before .before .before .before .before .before .before .before .before .before .before .before .before .before .before)) (step′ .ensures) in
-    let n = c .before .before .before .before .before .before .before .before .before .before .before .before .before .note .ensures in
-    let l = c .lowest2 .ensures in (
+    let j = c .before .before .before .before .before .before .before .before .before .before .before .before .before .before .before .before .before .before .before .before .before .before .before .before .before .before .before .before .before .before .before .before in
+    let z = j .before .before .before .before .before .before .before .before .before .before .before .before .before .before .before .before .before .before .before .before .before .before .before .before .before .before .before .before .before .before .before .before .before .before .before .before .before .before .before .before .before .before .pre .0 in
+    let m = j .before .before .before .loop2 in
+    let n = down-next (z .sound) (m .inv .1) (m .inv .2) (z .few-workers) (z .turns-known) (m .inv .5) (j .before .before .loop2-test .taken) (j .before .whose-turn .ensures) (in-hand j) (c .before .before .before .before .before .before .before .before .before .before .before .before .before .before .before .before .before .before .before .before .before .before .before .before .before .before .step .ensures) (m .inv .6) (c .before .before .before .before .entries-on .ensures) (c .before .before .before .before .before .before .before .before .before .before .before .before .before .note .ensures) (c .lowest2 .ensures) in (
       m .inv .0,
       m .inv .1,
       m .inv .2,
       m .inv .3,
       m .inv .4,
-      rw (put-down (c .before .before .before .before .before .before .before .before .before .before .before .before .before .before .before .before .before .before .before .before .before .before .before .before .before .before .before .before .before .before .before .before .if1 .workers) (c .before .before .before .before .before .before .before .before .before .before .before .before .before .before .before .before .before .before .before .before .before .before .before .before .before .before .before .before .before .before .before .before .if1 .held) (step′ .result .worker)) (underway-turn (z .sound) (m .inv .1) (m .inv .2) (z .turns-known) (m .inv .5) (loop2-test′ .taken) (whose-turn′ .ensures) t l (n .1) (entries-on′ .ensures) (n .0)),
-      rw (put-down (c .before .before .before .before .before .before .before .before .before .before .before .before .before .before .before .before .before .before .before .before .before .before .before .before .before .before .before .before .before .before .before .before .if1 .workers) (c .before .before .before .before .before .before .before .before .before .before .before .before .before .before .before .before .before .before .before .before .before .before .before .before .before .before .before .before .before .before .before .before .if1 .held) (step′ .result .worker)) (carried-turn (z .sound) (m .inv .1) (m .inv .2) (z .turns-known) (m .inv .6) (loop2-test′ .taken) (whose-turn′ .ensures) t l (n .1) (entries-on′ .ensures) (n .0)),
-      held-inside (c .before .before .before .before .before .before .before .before .before .before .before .before .before .before .before .before .before .before .before .before .before .before .before .before .before .before .before .before .before .before .before .before),
+      n .0,
+      n .1,
+      n .2,
     )
 
 loop2-less-2 : tie.Need-loop2-less-2 Inv-loop2 μ-loop2 Inv-loop μ-loop
 loop2-less-2 c =
-    let loop2-test′ = c .before .before .before .before .before .before .before .before .before .before .before .before .before .before .before .before .before .before .before .before .before .before .before .before .before .before .before .before .before .before .before .before .loop2-test in
-    let whose-turn′ = c .before .before .before .before .before .before .before .before .before .before .before .before .before .before .before .before .before .before .before .before .before .before .before .before .before .before .before .before .before .before .before .whose-turn in
-    let z = c .before .before .before .before .before .before .before .before .before .before .before .before .before .before .before .before .before .before .before .before .before .before .before .before .before .before .before .before .before .before .before .before .before .before .before .before .before .before .before .before .before .before .before .before .before .before .before .before .before .before .before .before .before .before .before .before .before .before .before .before .before .before .before .before .before .before .before .before .before .before .before .before .pre .0 in
-    let m = c .before .before .before .before .before .before .before .before .before .before .before .before .before .before .before .before .before .before .before .before .before .before .before .before .before .before .before .before .before .before .before .before .before .loop2 in
-    let u = m .inv .5 in
-    let k = below-eight (whose-known (z .sound) (m .inv .1) (m .inv .2) (u .lent-fits) (z .turns-known) (u .within) (loop2-test′ .taken) (whose-turn′ .ensures)) (z .few-workers) in
-    let t = hand-turn (in-table (set (m .workers) (m .held) (m .worker)) k (u .within .running .tally .table)) (in-hand (c .before .before .before .before .before .before .before .before .before .before .before .before .before .before .before .before .before .before .before .before .before .before .before .before .before .before .before .before .before .before)) (c .before .before .before .before .before .before .before .before .before .before .before .before .before .before .before .before .before .before .before .before .before .before .before .before .step .ensures) in
-    rw (c .before .before .entries-on .ensures) (within-less (z .sound) (m .inv .1) (m .inv .2) (u .lent-fits) (z .turns-known) (u .within) (loop2-test′ .taken) (whose-turn′ .ensures) t)
+    let j = c .before .before .before .before .before .before .before .before .before .before .before .before .before .before .before .before .before .before .before .before .before .before .before .before .before .before .before .before .before .before in
+    let z = j .before .before .before .before .before .before .before .before .before .before .before .before .before .before .before .before .before .before .before .before .before .before .before .before .before .before .before .before .before .before .before .before .before .before .before .before .before .before .before .before .before .before .pre .0 in
+    let m = j .before .before .before .loop2 in
+    kept-less (z .sound) (m .inv .1) (m .inv .2) (z .few-workers) (z .turns-known) (m .inv .5) (j .before .before .loop2-test .taken) (j .before .whose-turn .ensures) (in-hand j) (c .before .before .before .before .before .before .before .before .before .before .before .before .before .before .before .before .before .before .before .before .before .before .before .before .step .ensures) (c .before .before .entries-on .ensures)
 
 loop2-again-2 : tie.Need-loop2-again-2 Inv-loop2 μ-loop2 Inv-loop μ-loop
 loop2-again-2 c =
-    let loop2-test′ = c .before .before .before .before .before .before .before .before .before .before .before .before .before .before .before .before .before .before .before .before .before .before .before .before .before .before .before .before .before .before .before .before .loop2-test in
-    let whose-turn′ = c .before .before .before .before .before .before .before .before .before .before .before .before .before .before .before .before .before .before .before .before .before .before .before .before .before .before .before .before .before .before .before .whose-turn in
-    let step′ = c .before .before .before .before .before .before .before .before .before .before .before .before .before .before .before .before .before .before .before .before .before .before .before .before .step in
-    let entries-on′ = c .before .before .entries-on in
-    let z = c .before .before .before .before .before .before .before .before .before .before .before .before .before .before .before .before .before .before .before .before .before .before .before .before .before .before .before .before .before .before .before .before .before .before .before .before .before .before .before .before .before .before .before .before .before .before .before .before .before .before .before .before .before .before .before .before .before .before .before .before .before .before .before .before .before .before .before .before .before .before .before .before .pre .0 in
-    let m = c .before .before .before .before .before .before .before .before .before .before .before .before .before .before .before .before .before .before .before .before .before .before .before .before .before .before .before .before .before .before .before .before .before .loop2 in
-    let u = m .inv .5 in
-    let k = below-eight (whose-known (z .sound) (m .inv .1) (m .inv .2) (u .lent-fits) (z .turns-known) (u .within) (loop2-test′ .taken) (whose-turn′ .ensures)) (z .few-workers) in
-    let t = hand-turn (in-table (set (m .workers) (m .held) (m .worker)) k (u .within .running .tally .table)) (in-hand (c .before .before .before .before .before .before .before .before .before .before .before .before .before .before .before .before .before .before .before .before .before .before .before .before .before .before .before .before .before .before)) (step′ .ensures) in
-    let n = c .before .before .before .before .before .before .before .before .before .before .before .note .ensures in
-    let l = hand-lowest (in-table (set (m .workers) (m .held) (m .worker)) k (u .within .running .tally .table)) (in-hand (c .before .before .before .before .before .before .before .before .before .before .before .before .before .before .before .before .before .before .before .before .before .before .before .before .before .before .before .before .before .before)) (step′ .ensures) (u .within .lowest) (not-false _ (c .if2 .left)) in (
+    let j = c .before .before .before .before .before .before .before .before .before .before .before .before .before .before .before .before .before .before .before .before .before .before .before .before .before .before .before .before .before .before in
+    let z = j .before .before .before .before .before .before .before .before .before .before .before .before .before .before .before .before .before .before .before .before .before .before .before .before .before .before .before .before .before .before .before .before .before .before .before .before .before .before .before .before .before .before .pre .0 in
+    let m = j .before .before .before .loop2 in
+    let n = kept-next (z .sound) (m .inv .1) (m .inv .2) (z .few-workers) (z .turns-known) (m .inv .5) (j .before .before .loop2-test .taken) (j .before .whose-turn .ensures) (in-hand j) (c .before .before .before .before .before .before .before .before .before .before .before .before .before .before .before .before .before .before .before .before .before .before .before .before .step .ensures) (m .inv .6) (c .before .before .entries-on .ensures) (c .before .before .before .before .before .before .before .before .before .before .before .note .ensures) (not-false _ (c .if2 .left)) in (
       m .inv .0,
       m .inv .1,
       m .inv .2,
       m .inv .3,
       m .inv .4,
-      (underway-turn (z .sound) (m .inv .1) (m .inv .2) (z .turns-known) (m .inv .5) (loop2-test′ .taken) (whose-turn′ .ensures) t l (n .1) (entries-on′ .ensures) (n .0)),
-      (carried-turn (z .sound) (m .inv .1) (m .inv .2) (z .turns-known) (m .inv .6) (loop2-test′ .taken) (whose-turn′ .ensures) t l (n .1) (entries-on′ .ensures) (n .0)),
-      held-inside (c .before .before .before .before .before .before .before .before .before .before .before .before .before .before .before .before .before .before .before .before .before .before .before .before .before .before .before .before .before .before),
+      n .0,
+      n .1,
+      n .2,
     )
 
 mul-workers-3 : tie.Need-mul-workers-3 Inv-loop2 μ-loop2 Inv-loop μ-loop
