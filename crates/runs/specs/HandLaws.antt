@@ -76,39 +76,42 @@ module _ {g : Graph} {fixed outer inner result : List ℕ} {s w held : ℕ} {tab
       left l (yes i) = rw i (ap (λ (x : Worker). x .place .left) (getD-set-same table w v′ nobody inside) ∙ e)
       left l (no n) = ap (λ (x : Worker). x .place .left) (getD-set-other table w low v′ nobody n) ∙ z .left l
 
--- ---- its turn in the loop: each need there is one law over plain values, for the types at its places are long
-module _ {q : Query} {scheme : Scheme} {m s low at pairs : ℕ} {turns : List ℕ} {table : List Worker} {c : Columns} {log : Memory}
-    (sound : Sound q) (two : 2 ≤ s) (size-known : s ≤ tableCount (q .graph)) (few-workers : m ≤ maxWorkers) (entries : (j : ℕ) → j < length turns → getD turns j 0 < m)
-    (z : Underway q scheme m turns s low table at pairs c log) (more : low < m) {w : ℕ} (e : w ≡ whose turns at low)
-    {workers : List Worker} {held : ℕ} {v v′ : Worker} {new : Columns} {pair : code.Handed}
-    (h : InHand table workers held w v) (t : StepTaken (q .graph) (q .fixed) (q .perOuter) (q .perInner) (q .perResult) s v v′ c new pair) where
-  in-crew : w < maxWorkers
-  in-crew = below-eight (whose-known sound two size-known (z .lent-fits) entries (z .within) more e) few-workers
+-- ---- its turn in the loop
+-- what it leaves: fewer turns, and with the next lowest worker, kept in hand, what holds at the next turn
+pub record Turned (q : Query) (scheme : Scheme) (m : ℕ) (turns : List ℕ) (s low₀ : ℕ) (workers₀ : List Worker) (at₀ pairs₀ : ℕ) (c₀ : Columns) (log₀ : Memory) (low at : ℕ) (table workers : List Worker) (held : ℕ) (v′ : Worker)
+    (at′ pairs′ : ℕ) (new : Columns) (log′ : Memory) : Type 0 where
+  pub inside : held < maxWorkers
+  pub less : length turns - at′ + stillMet (q .graph) s m (set workers held v′) < length turns - at + stillMet (q .graph) s m table
+  pub lowest : v′ .place .left ≡ true → LowestLeft (set workers held v′) m low
+  pub underway : {low′ : ℕ} → LowestLeft (set workers held v′) m low′ → Underway q scheme m turns s low′ (set workers held v′) at′ pairs′ new log′
+  pub carried : {low′ : ℕ} → LowestLeft (set workers held v′) m low′ → Carried q scheme m turns s low₀ workers₀ at₀ pairs₀ c₀ log₀ low′ (set workers held v′) at′ pairs′ new log′
 
-  in-turn : w < length table
-  in-turn = in-table table in-crew (z .within .running .tally .table)
+pub hand-turned : {q : Query} {scheme : Scheme} {m s low at pairs : ℕ} {turns : List ℕ} {table : List Worker} {c : Columns} {log : Memory} → Sound q → 2 ≤ s → s ≤ tableCount (q .graph) → m ≤ maxWorkers → ((j : ℕ) → j < length turns → getD turns j 0 < m)
+    → Underway q scheme m turns s low table at pairs c log → {low₀ at₀ pairs₀ : ℕ} {workers₀ : List Worker} {c₀ : Columns} {log₀ : Memory} → Carried q scheme m turns s low₀ workers₀ at₀ pairs₀ c₀ log₀ low table at pairs c log
+    → low < m → {w : ℕ} → w ≡ whose turns at low → {workers : List Worker} {held : ℕ} {v v′ : Worker} {new : Columns} {pair : code.Handed} → InHand table workers held w v
+    → StepTaken (q .graph) (q .fixed) (q .perOuter) (q .perInner) (q .perResult) s v v′ c new pair → {at′ pairs′ : ℕ} {log′ : Memory} → at′ ≡ entriesOn (length turns) at → (pairs′ ≡ countIf pairs pair) × (log′ ≡ notedIf log pairs w pair)
+    → Turned q scheme m turns s low₀ workers₀ at₀ pairs₀ c₀ log₀ low at table workers held v′ at′ pairs′ new log′
+hand-turned {table = table} sound two known few entries u z more e h t a n =
+    let i = below-eight (whose-known sound two known (u .lent-fits) entries (u .within) more e) few in
+    let l = in-table table i (u .within .running .tally .table) in
+    let o = hand-turn l h t in
+    record {
+      inside = rw (h .whose) i;
+      less = rw a (within-less sound two known (u .lent-fits) entries (u .within) more e o);
+      lowest = hand-lowest l h t (u .within .lowest);
+      underway = λ k. underway-turn sound two known entries u more e o k (n .1) a (n .0);
+      carried = λ k. carried-turn sound two known entries z more e o k (n .1) a (n .0);
+    }
 
-  turn : TurnTaken (q .graph) (q .fixed) (q .perOuter) (q .perInner) (q .perResult) s w table (set workers held v′) c new pair
-  turn = hand-turn in-turn h t
+-- and the same where it is put down as well
+module _ {q : Query} {scheme : Scheme} {m : ℕ} {turns : List ℕ} {s low₀ : ℕ} {workers₀ : List Worker} {at₀ pairs₀ : ℕ} {c₀ : Columns} {log₀ : Memory} {low at : ℕ} {table workers : List Worker} {held : ℕ} {v′ : Worker} {at′ pairs′ : ℕ} {new : Columns}
+    {log′ : Memory} (t : Turned q scheme m turns s low₀ workers₀ at₀ pairs₀ c₀ log₀ low at table workers held v′ at′ pairs′ new log′) where
+  pub down-less : length turns - at′ + stillMet (q .graph) s m (set (set workers held v′) held v′) < length turns - at + stillMet (q .graph) s m table
+  down-less = rw (put-down workers held v′) (t .less)
 
-  -- fewer are left, kept in hand and put down
-  pub kept-less : {at′ : ℕ} → at′ ≡ entriesOn (length turns) at → length turns - at′ + stillMet (q .graph) s m (set workers held v′) < length turns - at + stillMet (q .graph) s m table
-  kept-less a = rw a (within-less sound two size-known (z .lent-fits) entries (z .within) more e turn)
+  module _ {low′ : ℕ} (l : LowestLeft (set workers held v′) m low′) where
+    pub down-underway : Underway q scheme m turns s low′ (set (set workers held v′) held v′) at′ pairs′ new log′
+    down-underway = rw (put-down workers held v′) (t .underway l)
 
-  pub down-less : {at′ : ℕ} → at′ ≡ entriesOn (length turns) at → length turns - at′ + stillMet (q .graph) s m (set (set workers held v′) held v′) < length turns - at + stillMet (q .graph) s m table
-  down-less a = rw (put-down workers held v′) (kept-less a)
-
-  -- and what holds at a turn's start holds at the next's, kept in hand and put down
-  module _ {low₀ at₀ pairs₀ : ℕ} {workers₀ : List Worker} {c₀ : Columns} {log₀ : Memory} (carried : Carried q scheme m turns s low₀ workers₀ at₀ pairs₀ c₀ log₀ low table at pairs c log)
-      {at′ pairs′ : ℕ} {log′ : Memory} (a : at′ ≡ entriesOn (length turns) at) (n : (pairs′ ≡ countIf pairs pair) × (log′ ≡ notedIf log pairs w pair)) where
-    next : {low′ : ℕ} {workers′ : List Worker} → TurnTaken (q .graph) (q .fixed) (q .perOuter) (q .perInner) (q .perResult) s w table workers′ c new pair → LowestLeft workers′ m low′
-        → Underway q scheme m turns s low′ workers′ at′ pairs′ new log′ × Carried q scheme m turns s low₀ workers₀ at₀ pairs₀ c₀ log₀ low′ workers′ at′ pairs′ new log′ × (held < maxWorkers)
-    next u l = (underway-turn sound two size-known entries z more e u l (n .1) a (n .0), carried-turn sound two size-known entries carried more e u l (n .1) a (n .0), rw (h .whose) in-crew)
-
-    pub kept-next : v′ .place .left ≡ true
-        → Underway q scheme m turns s low (set workers held v′) at′ pairs′ new log′ × Carried q scheme m turns s low₀ workers₀ at₀ pairs₀ c₀ log₀ low (set workers held v′) at′ pairs′ new log′ × (held < maxWorkers)
-    kept-next i = next turn (hand-lowest in-turn h t (z .within .lowest) i)
-
-    pub down-next : {low′ : ℕ} → LowestLeft (set workers held v′) m low′
-        → Underway q scheme m turns s low′ (set (set workers held v′) held v′) at′ pairs′ new log′ × Carried q scheme m turns s low₀ workers₀ at₀ pairs₀ c₀ log₀ low′ (set (set workers held v′) held v′) at′ pairs′ new log′ × (held < maxWorkers)
-    down-next l = rw (put-down workers held v′) (next turn l)
+    pub down-carried : Carried q scheme m turns s low₀ workers₀ at₀ pairs₀ c₀ log₀ low′ (set (set workers held v′) held v′) at′ pairs′ new log′
+    down-carried = rw (put-down workers held v′) (t .carried l)

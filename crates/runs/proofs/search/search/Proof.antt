@@ -19,7 +19,7 @@ use Rattle.turns.specs.StartLaws.{Prepared}
 use Rattle.crew.specs.Workers.{workerAt}
 use Rattle.crew.specs.Logs.{logOf}
 use Rattle.runs.specs.Runs.{Between, Underway, Carried}
-use Rattle.runs.specs.HandLaws.{InHand, hand-start, hand-changed, hand-kept, put-down, hand-turn, hand-lowest, kept-less, down-less, kept-next, down-next}
+use Rattle.runs.specs.HandLaws.{InHand, hand-start, hand-changed, hand-kept, Turned, hand-turned, down-less, down-underway, down-carried}
 use Rattle.runs.specs.SearchLaws.{in-table, in-memory, scans-fit, between-start, between-end, prepared, nobodies, within-open, within-closed, within-few, within-board, within-ready, whose-known, within-less, carried-start, carried-turn, underway-turn, two-of, size-of, below-eight, below-two, few-pairs, starts-room, size-fits, less-size, all-sizes, laid-length, logged-lengths}
 use Rattle.runs.proofs.search.search.Statement.{statement}
 use Rattle.runs.proofs.search.search.Tie as tie
@@ -197,50 +197,50 @@ array-set-from-workers-2 c = held-inside (c .before .before .before .before .bef
 lowest-requires-2 : tie.Need-lowest-requires-2 Inv-loop2 μ-loop2 Inv-loop μ-loop
 lowest-requires-2 c κs = c .before .before .before .before .before .before .before .before .before .before .before .before .before .before .before .before .before .before .before .before .before .before .before .before .before .before .before .before .before .before .before .before .before .before .before .before .before .before .before .before .before .before .before .before .before .before .before .before .before .before .before .before .before .before .before .before .before .before .before .before .before .before .before .before .before .before .before .before .before .before .before .before .before .pre .0 .few-workers
 
-loop2-less : tie.Need-loop2-less Inv-loop2 μ-loop2 Inv-loop μ-loop
-loop2-less c =
-    let j = c .before .before .before .before .before .before .before .before .before .before .before .before .before .before .before .before .before .before .before .before .before .before .before .before .before .before .before .before .before .before .before .before in
+-- the turn, in the shortest paths: the needs below have it at every length
+turned : (c : tie.After-entries-on Inv-loop2 μ-loop2 Inv-loop μ-loop)
+    → let j = c .before .before .before .before .before .before .before .before .before .before .before .before .before .before .before .before .before .before .before .before .before .before .before .before .before .before .before .before in let m = j .before .before .before .loop2 in let l = j .before .before .before .before .before .before .before .before .before .before .loop in let a = j .before .before .before .before .before .before .before .before .before .before .before .before .before .before .before .before .before .before .before .before .before .before .before .before .before .before .before .before .before .before .before .before .before .before .before .before .before .before .before .before .before .before .args in let o = j .before .before .before .before .before .before .«open» .result in
+    Turned (queryOf (a .rows .now) (a .scans .now) (a .left .now) (a .right .now) (a .divisors .now) (a .fixed .now) (a .outer .now) (a .inner .now) (a .result .now)) (a .scheme) (a .count) (a .turns .now) (l .k + 1) (j .before .before .before .before .before .lowest .result) (set o 0 (workerAt o 0)) (l .at) (l .pairs) (columns (l .costs) (l .outers) (l .methods)) (logOf (l .log-workers) (l .log-driving) (l .log-inner) (l .log-costs)) (m .low) (m .at) (set (m .workers) (m .held) (m .worker)) (j .if1 .workers) (j .if1 .held) (c .before .before .before .before .before .before .before .before .before .before .before .before .before .before .before .before .before .before .before .before .before .before .step .result .worker) (c .entries-on .result) (c .before .before .before .before .before .before .before .before .before .note .result) (columns (c .before .before .before .before .before .before .before .before .before .before .before .before .before .before .before .before .before .before .before .before .before .before .step .last .1 .1 .1 .1 .1 .1 .1 .1 .1 .1 .0) (c .before .before .before .before .before .before .before .before .before .before .before .before .before .before .before .before .before .before .before .before .before .before .step .last .1 .1 .1 .1 .1 .1 .1 .1 .1 .1 .1 .0) (c .before .before .before .before .before .before .before .before .before .before .before .before .before .before .before .before .before .before .before .before .before .before .step .last .1 .1 .1 .1 .1 .1 .1 .1 .1 .1 .1 .1 .0)) (logOf (c .before .before .before .before .before .before .before .before .before .note .last .0) (c .before .before .before .before .before .before .before .before .before .note .last .1 .0) (c .before .before .before .before .before .before .before .before .before .note .last .1 .1 .0) (c .before .before .before .before .before .before .before .before .before .note .last .1 .1 .1 .0))
+turned c =
+    let j = c .before .before .before .before .before .before .before .before .before .before .before .before .before .before .before .before .before .before .before .before .before .before .before .before .before .before .before .before in
     let z = j .before .before .before .before .before .before .before .before .before .before .before .before .before .before .before .before .before .before .before .before .before .before .before .before .before .before .before .before .before .before .before .before .before .before .before .before .before .before .before .before .before .before .pre .0 in
     let m = j .before .before .before .loop2 in
-    down-less (z .sound) (m .inv .1) (m .inv .2) (z .few-workers) (z .turns-known) (m .inv .5) (j .before .before .loop2-test .taken) (j .before .whose-turn .ensures) (in-hand j) (c .before .before .before .before .before .before .before .before .before .before .before .before .before .before .before .before .before .before .before .before .before .before .before .before .before .before .step .ensures) (c .before .before .before .before .entries-on .ensures)
+    hand-turned (z .sound) (m .inv .1) (m .inv .2) (z .few-workers) (z .turns-known) (m .inv .5) (m .inv .6) (j .before .before .loop2-test .taken) (j .before .whose-turn .ensures) (in-hand j) (c .before .before .before .before .before .before .before .before .before .before .before .before .before .before .before .before .before .before .before .before .before .before .step .ensures) (c .entries-on .ensures) (c .before .before .before .before .before .before .before .before .before .note .ensures)
+
+loop2-less : tie.Need-loop2-less Inv-loop2 μ-loop2 Inv-loop μ-loop
+loop2-less c = down-less (turned (c .before .before .before .before))
 
 loop2-again : tie.Need-loop2-again Inv-loop2 μ-loop2 Inv-loop μ-loop
 loop2-again c =
-    let j = c .before .before .before .before .before .before .before .before .before .before .before .before .before .before .before .before .before .before .before .before .before .before .before .before .before .before .before .before .before .before .before .before in
-    let z = j .before .before .before .before .before .before .before .before .before .before .before .before .before .before .before .before .before .before .before .before .before .before .before .before .before .before .before .before .before .before .before .before .before .before .before .before .before .before .before .before .before .before .pre .0 in
-    let m = j .before .before .before .loop2 in
-    let n = down-next (z .sound) (m .inv .1) (m .inv .2) (z .few-workers) (z .turns-known) (m .inv .5) (j .before .before .loop2-test .taken) (j .before .whose-turn .ensures) (in-hand j) (c .before .before .before .before .before .before .before .before .before .before .before .before .before .before .before .before .before .before .before .before .before .before .before .before .before .before .step .ensures) (m .inv .6) (c .before .before .before .before .entries-on .ensures) (c .before .before .before .before .before .before .before .before .before .before .before .before .before .note .ensures) (c .lowest2 .ensures) in (
+    let m = c .before .before .before .before .before .before .before .before .before .before .before .before .before .before .before .before .before .before .before .before .before .before .before .before .before .before .before .before .before .before .before .before .before .before .before .loop2 in
+    let t = turned (c .before .before .before .before) in
+    let l = c .lowest2 .ensures in (
       m .inv .0,
       m .inv .1,
       m .inv .2,
       m .inv .3,
       m .inv .4,
-      n .0,
-      n .1,
-      n .2,
+      down-underway t l,
+      down-carried t l,
+      t .inside,
     )
 
 loop2-less-2 : tie.Need-loop2-less-2 Inv-loop2 μ-loop2 Inv-loop μ-loop
-loop2-less-2 c =
-    let j = c .before .before .before .before .before .before .before .before .before .before .before .before .before .before .before .before .before .before .before .before .before .before .before .before .before .before .before .before .before .before in
-    let z = j .before .before .before .before .before .before .before .before .before .before .before .before .before .before .before .before .before .before .before .before .before .before .before .before .before .before .before .before .before .before .before .before .before .before .before .before .before .before .before .before .before .before .pre .0 in
-    let m = j .before .before .before .loop2 in
-    kept-less (z .sound) (m .inv .1) (m .inv .2) (z .few-workers) (z .turns-known) (m .inv .5) (j .before .before .loop2-test .taken) (j .before .whose-turn .ensures) (in-hand j) (c .before .before .before .before .before .before .before .before .before .before .before .before .before .before .before .before .before .before .before .before .before .before .before .before .step .ensures) (c .before .before .entries-on .ensures)
+loop2-less-2 c = turned (c .before .before) .less
 
 loop2-again-2 : tie.Need-loop2-again-2 Inv-loop2 μ-loop2 Inv-loop μ-loop
 loop2-again-2 c =
-    let j = c .before .before .before .before .before .before .before .before .before .before .before .before .before .before .before .before .before .before .before .before .before .before .before .before .before .before .before .before .before .before in
-    let z = j .before .before .before .before .before .before .before .before .before .before .before .before .before .before .before .before .before .before .before .before .before .before .before .before .before .before .before .before .before .before .before .before .before .before .before .before .before .before .before .before .before .before .pre .0 in
-    let m = j .before .before .before .loop2 in
-    let n = kept-next (z .sound) (m .inv .1) (m .inv .2) (z .few-workers) (z .turns-known) (m .inv .5) (j .before .before .loop2-test .taken) (j .before .whose-turn .ensures) (in-hand j) (c .before .before .before .before .before .before .before .before .before .before .before .before .before .before .before .before .before .before .before .before .before .before .before .before .step .ensures) (m .inv .6) (c .before .before .entries-on .ensures) (c .before .before .before .before .before .before .before .before .before .before .before .note .ensures) (not-false _ (c .if2 .left)) in (
+    let m = c .before .before .before .before .before .before .before .before .before .before .before .before .before .before .before .before .before .before .before .before .before .before .before .before .before .before .before .before .before .before .before .before .before .loop2 in
+    let t = turned (c .before .before) in
+    let l = t .lowest (not-false _ (c .if2 .left)) in (
       m .inv .0,
       m .inv .1,
       m .inv .2,
       m .inv .3,
       m .inv .4,
-      n .0,
-      n .1,
-      n .2,
+      t .underway l,
+      t .carried l,
+      t .inside,
     )
 
 mul-workers-3 : tie.Need-mul-workers-3 Inv-loop2 μ-loop2 Inv-loop μ-loop
