@@ -7,8 +7,8 @@ use Rattle.rules.specs.Query.{graphOf}
 use Rattle.pairs.specs.Places.{firstOf, RowFrom}
 use Rattle.pairs.specs.SpanLaws.{share-fits}
 use Rattle.pairs.specs.LeafLaws.{Walked, walked-none, walked-on}
-use Rattle.pairs.specs.FindLaws.{Clear, clear-none, clear-on, Sized, sized-of, Rowed, few-all, sets-inside, first-le-end, rowed-few, rowed-of, rowed-clear, rowed-next, rowed-place, rowed-found, size-next, none-left}
-use Rattle.pairs.specs.FitLaws.{few-fit, few-cell, cell-fits, row-fits, place-fits, row-few, part-few, le-same, le-more, not-past, half-le, less-size, less-row, less-inner, inner-fits, end-fits, end-cell-fits, size-fits, next-size-fits, next-cell-fits, inner-in, end-in, size-in, next-size-in, first-ready, rows-forward, row-behind, rows-done}
+use Rattle.pairs.specs.FindLaws.{Clear, clear-none, Sized, sized-of, Rowed, few-all, sets-inside, first-le-end, rowed-few, rowed-of, rowed-place, row-done, pair-found, size-next, none-left}
+use Rattle.pairs.specs.FitLaws.{few-fit, few-cell, cell-fits, row-fits, place-fits, row-few, part-few, le-same, not-past, half-le, less-size, less-row, less-inner, inner-fits, end-fits, end-cell-fits, size-fits, next-size-fits, next-cell-fits, inner-in, end-in, size-in, next-size-in, first-ready, rows-forward, row-behind, rows-done}
 use Rattle.pairs.proofs.find.find.Statement.{statement}
 use Rattle.pairs.proofs.find.find.Tie as tie
 
@@ -203,15 +203,11 @@ loop-less c = less-row (c .before .before .before .before .before .before .loop-
 
 loop-again : tie.Need-loop-again Inv-loop2 μ-loop2 Inv-loop μ-loop Inv-find μ-find
 loop-again c =
-    let s = c .before .before .before .before .before .before .before .before .before .before .before .before .before .before .before .before .before .before .before .before .before .before .before in
-    let g = graphOf (s .args .rows .now) (s .args .left .now) (s .args .right .now) (s .args .divisors .now) in
+    let p = c .before .before .before .before .before .before .before .before .before .before .before .before .before .before .before .before .before .before .before .before .before .before .before .pre in
     let l = c .before .before .before .before .before .before .before .loop in
-    let m = c .before .before .loop2 in (
-      l .inv .0,
-      le-more _ (l .inv .1),
-      rowed-next g (s .args .sets .now) (s .args .skips .now) (s .args .starts .now) (s .args .cells .now) (s .pre .1 .0) (s .pre .0) (s .args .s) (s .args .share) (s .pre .1 .1 .0) _ _ _ _ _ _ _ _ (m .inv .0) _ (m .inv .1) (c .if1 .left),
-      clear-on g (s .args .s) (s .args .share) (s .args .ahead) (l .number) _ (l .inv .3) (rowed-clear g (s .args .sets .now) (s .args .skips .now) (s .args .starts .now) (s .args .cells .now) (s .pre .1 .0) (s .pre .0) (s .args .s) (s .args .share) (s .pre .1 .1 .0) _ _ _ _ _ _ _ _ (m .inv .0) _ (m .inv .1) (c .if1 .left)),
-    )
+    let m = c .before .before .loop2 in
+    let r = row-done (p .0) (p .1 .0) (p .1 .1 .0) (m .inv .0) (m .inv .1) (l .inv .1) (l .inv .3) (c .if1 .left) in
+    (l .inv .0, r .0, r .1, r .2)
 
 add-d : tie.Need-add-d Inv-loop2 μ-loop2 Inv-loop μ-loop Inv-find μ-find
 add-d c = next-size-fits (c .before .before .before .before .before .before .before .before .before .before .before .before .before .before .before .before .before .pre .0) (c .before .before .before .before .before .before .before .before .find .inv .1) (c .before .before .before .before .before .before .before .find-test .taken)
@@ -266,12 +262,9 @@ add-t50 c =
 
 returns-2 : tie.Need-returns-2 Inv-loop2 μ-loop2 Inv-loop μ-loop Inv-find μ-find
 returns-2 c =
-    let s = c .before .before .before .before .before .before .before .before .before .before .before .before .before in
-    let g = graphOf (s .args .rows .now) (s .args .left .now) (s .args .right .now) (s .args .divisors .now) in
-    let f = c .before .before .before .before .find in
+    let p = c .before .before .before .before .before .before .before .before .before .before .before .before .before .pre in
     ⊎-elim (λ w. absurd (not-past (c .before .before .if3 .left) (w .0 .left)))
-    (λ w. let e : c .before .first-of2 .result ≡ w .9 .result = c .before .first-of2 .ensures ∙ ap (firstOf (s .args .starts .now) (s .args .s) (f .d)) (w .17) ∙ sym (w .9 .ensures) in
-    rw (w .17, w .18, w .19, e) (rowed-found g (s .args .sets .now) (s .args .skips .now) (s .args .starts .now) (s .args .cells .now) (s .pre .1 .0) (s .pre .0) (s .args .s) (s .args .share) (s .pre .1 .1 .0) _ _ _ _ _ _ _ _ (w .11 .inv .0) (w .11 .j) (w .11 .inv .1) (s .args .ahead) (w .11 .inv .2) (w .11 .inv .3) (w .13 .taken) (w .15 .ensures) (w .16 .taken)))
+    (λ w. pair-found (p .0) (p .1 .0) (p .1 .1 .0) (w .11 .inv .0) (w .11 .inv .1) (w .11 .inv .2) (w .11 .inv .3) (w .13 .taken) (w .15 .ensures) (w .16 .taken) (w .9 .ensures) (w .17) (w .18) (w .19) (c .before .first-of2 .ensures))
     (c .before .before .before .find-test .came)
 
 pub find-spec : {M : Type 1} → statement M
