@@ -4,6 +4,7 @@ use Prim.Native.Nat.{_+_, _-_, _≤_}
 use native.Mathlib.Nat.{le-refl}
 use lib.ListN.{getD}
 use Rattle.rules.specs.Query.{graphOf}
+use Rattle.shares.specs.Shares.{few}
 use Rattle.pairs.specs.Places.{firstOf, RowFrom}
 use Rattle.pairs.specs.SpanLaws.{share-fits}
 use Rattle.pairs.specs.LeafLaws.{Walked, walked-none, walked-on}
@@ -90,13 +91,18 @@ loop-holds c =
     let f = c .before .before .before .before .before .before .find in
     (sized-of g (s .args .sets .now) (s .args .skips .now) (s .args .starts .now) (s .args .cells .now) (s .pre .1 .0) (s .pre .0) (s .args .s) (s .args .share) (s .pre .1 .1 .0) (f .d) (f .i) (f .number) (f .inv .1) (c .before .before .before .before .before .find-test .taken), f .inv .0, f .inv .1, f .inv .2)
 
-mul-x : tie.Need-mul-x Inv-loop2 μ-loop2 Inv-loop μ-loop Inv-find μ-find
-mul-x c =
+-- few rows and candidates come to a driving row, stated once in the shortest paths
+few-row : (c : tie.In-loop Inv-loop2 μ-loop2 Inv-loop μ-loop Inv-find μ-find)
+    → let a = c .before .before .before .before .before .before .before .before .before .before .before .before .before .before .before .before .before .args in let d = c .before .before .before .before .before .before .before .before .find .d in let starts = a .starts .now in (c .before .loop .number ≤ few) × (getD starts (a .s - d + 1) 0 ≤ few) × (getD starts (d + 1) 0 ≤ few)
+few-row c =
     let s = c .before .before .before .before .before .before .before .before .before .before .before .before .before .before .before .before .before in
     let g = graphOf (s .args .rows .now) (s .args .left .now) (s .args .right .now) (s .args .divisors .now) in
     let f = c .before .before .before .before .before .before .before .before .find in
     let l = c .before .loop in
-    cell-fits (c .loop-test .taken) (few-all g (s .args .sets .now) (s .args .skips .now) (s .args .starts .now) (s .args .cells .now) (s .pre .1 .0) (s .pre .0) (s .args .s) (s .args .share) (s .pre .1 .1 .0) (f .d) (l .i) (l .number) _ _ _ _ _ (l .inv .2) (l .inv .0) (c .loop-test .taken) .2)
+    few-all g (s .args .sets .now) (s .args .skips .now) (s .args .starts .now) (s .args .cells .now) (s .pre .1 .0) (s .pre .0) (s .args .s) (s .args .share) (s .pre .1 .1 .0) (f .d) (l .i) (l .number) _ _ _ _ _ (l .inv .2) (l .inv .0) (c .loop-test .taken)
+
+mul-x : tie.Need-mul-x Inv-loop2 μ-loop2 Inv-loop μ-loop Inv-find μ-find
+mul-x c = cell-fits (c .loop-test .taken) (few-row c .2)
 
 shared-slice-read-x : tie.Need-shared-slice-read-x Inv-loop2 μ-loop2 Inv-loop μ-loop Inv-find μ-find
 shared-slice-read-x c =
@@ -108,11 +114,9 @@ shared-slice-read-x c =
 
 first-of-requires : tie.Need-first-of-requires Inv-loop2 μ-loop2 Inv-loop μ-loop Inv-find μ-find
 first-of-requires c κs =
-    let s = c .before .before .before .before .before .before .before .before .before .before .before .before .before .before .before .before .before .before in
-    let g = graphOf (s .args .rows .now) (s .args .left .now) (s .args .right .now) (s .args .divisors .now) in
-    let f = c .before .before .before .before .before .before .before .before .before .find in
+    let p = c .before .before .before .before .before .before .before .before .before .before .before .before .before .before .before .before .before .before .pre in
     let l = c .before .before .loop in
-    first-ready (s .pre .0) (l .inv .2) (l .inv .0 .half) (s .pre .1 .0 .starts-long) (row-few refl (c .before .loop-test .taken) (few-all g (s .args .sets .now) (s .args .skips .now) (s .args .starts .now) (s .args .cells .now) (s .pre .1 .0) (s .pre .0) (s .args .s) (s .args .share) (s .pre .1 .1 .0) (f .d) (l .i) (l .number) _ _ _ _ _ (l .inv .2) (l .inv .0) (c .before .loop-test .taken) .2))
+    first-ready (p .0) (l .inv .2) (l .inv .0 .half) (p .1 .0 .starts-long) (row-few refl (c .before .loop-test .taken) (few-row (c .before) .2))
 
 sub-span-of : tie.Need-sub-span-of Inv-loop2 μ-loop2 Inv-loop μ-loop Inv-find μ-find
 sub-span-of c =
@@ -130,7 +134,7 @@ span-of-requires c κs =
     let g = graphOf (s .args .rows .now) (s .args .left .now) (s .args .right .now) (s .args .divisors .now) in
     let f = c .before .before .before .before .before .before .before .before .before .before .find in
     let l = c .before .before .before .loop in
-    let few = few-all g (s .args .sets .now) (s .args .skips .now) (s .args .starts .now) (s .args .cells .now) (s .pre .1 .0) (s .pre .0) (s .args .s) (s .args .share) (s .pre .1 .1 .0) (f .d) (l .i) (l .number) _ _ _ _ _ (l .inv .2) (l .inv .0) (c .before .before .loop-test .taken) in (
+    let few = few-row (c .before .before) in (
       share-fits g (s .args .s) (s .args .share) (s .pre .1 .1 .0) (s .pre .0) (l .inv .2 .known),
       few .0,
       part-few _ (few .2),
@@ -191,12 +195,7 @@ add-number c =
     few-fit (rowed-few g (s .args .sets .now) (s .args .skips .now) (s .args .starts .now) (s .args .cells .now) (s .pre .1 .0) (s .pre .0) (s .args .s) (s .args .share) (s .pre .1 .1 .0) _ _ _ _ _ _ _ _ (m .inv .0) _ (m .inv .1) (c .if1 .left))
 
 add-i : tie.Need-add-i Inv-loop2 μ-loop2 Inv-loop μ-loop Inv-find μ-find
-add-i c =
-    let s = c .before .before .before .before .before .before .before .before .before .before .before .before .before .before .before .before .before .before .before .before .before .before .before in
-    let g = graphOf (s .args .rows .now) (s .args .left .now) (s .args .right .now) (s .args .divisors .now) in
-    let f = c .before .before .before .before .before .before .before .before .before .before .before .before .before .before .find in
-    let l = c .before .before .before .before .before .before .before .loop in
-    row-fits (c .before .before .before .before .before .before .loop-test .taken) (few-all g (s .args .sets .now) (s .args .skips .now) (s .args .starts .now) (s .args .cells .now) (s .pre .1 .0) (s .pre .0) (s .args .s) (s .args .share) (s .pre .1 .1 .0) (f .d) (l .i) (l .number) _ _ _ _ _ (l .inv .2) (l .inv .0) (c .before .before .before .before .before .before .loop-test .taken) .2)
+add-i c = row-fits (c .before .before .before .before .before .before .loop-test .taken) (few-row (c .before .before .before .before .before .before) .2)
 
 loop-less : tie.Need-loop-less Inv-loop2 μ-loop2 Inv-loop μ-loop Inv-find μ-find
 loop-less c = less-row (c .before .before .before .before .before .before .loop-test .taken)
