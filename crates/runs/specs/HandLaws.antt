@@ -17,11 +17,12 @@ use Rattle.crew.specs.declared.Handed as code
 use Rattle.crew.specs.Workers.{nobody, workerAt}
 use Rattle.crew.specs.Whose.{LowestLeft, whose, entriesOn}
 use Rattle.crew.specs.Logs.{notedIf, countIf}
-use Rattle.turns.specs.Standing.{Columns, StepTaken, TurnTaken}
+use Rattle.turns.specs.Standing.{Columns, Ready, Board, StepTaken, TurnTaken}
 use Rattle.turns.specs.QueueLaws.{stillMet}
-use Rattle.turns.specs.StepLaws.{turn-of}
+use Rattle.turns.specs.StepLaws.{turn-of, ready-read}
+use Rattle.turns.specs.StartLaws.{Prepared}
 use Rattle.runs.specs.Runs.{Within, Underway, Carried}
-use Rattle.runs.specs.SearchLaws.{in-table, below-eight, whose-known, within-less, carried-turn, underway-turn}
+use Rattle.runs.specs.SearchLaws.{in-table, below-eight, whose-known, within-less, within-board, within-ready, carried-turn, underway-turn}
 
 -- the worker in hand, v, is worker w of the table
 pub record InHand (table workers : List Worker) (held w : ℕ) (v : Worker) : Type 0 where
@@ -115,3 +116,10 @@ module _ {q : Query} {scheme : Scheme} {m : ℕ} {turns : List ℕ} {s low₀ : 
 
     pub down-carried : Carried q scheme m turns s low₀ workers₀ at₀ pairs₀ c₀ log₀ low′ (set (set workers held v′) held v′) at′ pairs′ new log′
     down-carried = rw (put-down workers held v′) (t .carried l)
+
+-- what its turn may rely on
+pub hand-ready : {q : Query} {scheme : Scheme} {m s low at pairs : ℕ} {turns : List ℕ} {table : List Worker} {c : Columns} {log : Memory} → Sound q → 2 ≤ s → s ≤ tableCount (q .graph) → ((j : ℕ) → j < length turns → getD turns j 0 < m)
+    → Underway q scheme m turns s low table at pairs c log → {sets estimates cells starts cellStarts : List ℕ} → Prepared q sets estimates cells starts cellStarts → low < m → {w : ℕ} → w ≡ whose turns at low
+    → {workers : List Worker} {held : ℕ} {v : Worker} → InHand table workers held w v
+    → Board (q .graph) (q .fixed) (q .perOuter) (q .perInner) (q .perResult) sets estimates cells starts cellStarts s c × Ready (q .graph) s v
+hand-ready {table = table} sound two known entries u p more {w = w} e {v = v} h = (within-board sound two known (u .lent-fits) entries (u .within) more p, ready-read table w v (h .worker) (within-ready sound two known (u .lent-fits) entries (u .within) more e))

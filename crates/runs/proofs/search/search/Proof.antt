@@ -18,8 +18,8 @@ use Rattle.turns.specs.StepLaws.{ready-read}
 use Rattle.turns.specs.StartLaws.{Prepared}
 use Rattle.crew.specs.Workers.{workerAt}
 use Rattle.crew.specs.Logs.{logOf}
-use Rattle.runs.specs.Runs.{Between, Underway, Carried}
-use Rattle.runs.specs.HandLaws.{InHand, hand-start, hand-changed, hand-kept, Turned, hand-turned, down-less, down-underway, down-carried}
+use Rattle.runs.specs.Runs.{Between, Within, Underway, Carried}
+use Rattle.runs.specs.HandLaws.{InHand, hand-start, hand-changed, hand-kept, Turned, hand-turned, hand-ready, down-less, down-underway, down-carried}
 use Rattle.runs.specs.SearchLaws.{in-table, in-memory, scans-fit, between-start, between-end, prepared, nobodies, within-open, within-closed, within-few, within-board, within-ready, whose-known, within-less, carried-start, carried-turn, underway-turn, two-of, size-of, below-eight, below-two, few-pairs, starts-room, size-fits, less-size, all-sizes, laid-length, logged-lengths}
 use Rattle.runs.proofs.search.search.Statement.{statement}
 use Rattle.runs.proofs.search.search.Tie as tie
@@ -105,19 +105,24 @@ lowest-requires c κs = c .before .before .before .before .before .before .befor
 array-copy-out-worker : tie.Need-array-copy-out-worker Inv-loop2 μ-loop2 Inv-loop μ-loop
 array-copy-out-worker c = some-workers
 
+-- the first turn of a size, stated once in the shortest paths
+opened : (c : tie.After-lowest Inv-loop2 μ-loop2 Inv-loop μ-loop)
+    → let l = c .before .before .before .before .before .loop in let a = c .before .before .before .before .before .before .before .before .before .before .before .before .before .before .before .before .before .before .before .before .before .before .before .before .before .before .before .before .before .before .before .before .before .before .before .before .before .args in let o = c .before .«open» .result in
+    Within (queryOf (a .rows .now) (a .scans .now) (a .left .now) (a .right .now) (a .divisors .now) (a .fixed .now) (a .outer .now) (a .inner .now) (a .result .now)) (a .scheme) (a .count) (a .turns .now) (columns (c .before .before .before .before .before .before .before .before .before .lay-scans .last .1 .0) (a .outers .now) (a .methods .now)) (logOf (a .log-workers .now) (a .log-driving .now) (a .log-inner .now) (a .log-costs .now)) (l .k + 1) (c .lowest .result) (set o 0 (workerAt o 0)) (l .at) (l .pairs) (columns (l .costs) (l .outers) (l .methods)) (logOf (l .log-workers) (l .log-driving) (l .log-inner) (l .log-costs))
+opened c =
+    let z = c .before .before .before .before .before .before .before .before .before .before .before .before .before .before .before .before .before .before .before .before .before .before .before .before .before .before .before .before .before .before .before .before .before .before .before .before .before .pre .0 in
+    let l = c .before .before .before .before .before .loop in
+    hand-start (c .before .«open» .result) (within-open (z .sound) (two-of (l .inv .0)) (size-of (c .before .before .before .before .loop-test .taken) (l .inv .2)) (z .some-worker) (z .few-workers) (l .inv .6) (c .before .«open» .ensures) (c .lowest .ensures))
+
 loop2-holds : tie.Need-loop2-holds Inv-loop2 μ-loop2 Inv-loop μ-loop
 loop2-holds c =
-    let open′ = c .before .before .«open» in
-    let z = c .before .before .before .before .before .before .before .before .before .before .before .before .before .before .before .before .before .before .before .before .before .before .before .before .before .before .before .before .before .before .before .before .before .before .before .before .before .before .pre .0 in
-    let l = c .before .before .before .before .before .before .loop in
-    let two = two-of (l .inv .0) in
-    let known = size-of (c .before .before .before .before .before .loop-test .taken) (l .inv .2) in (
+    let l = c .before .before .before .before .before .before .loop in (
       l .inv .3,
-      two,
-      known,
+      two-of (l .inv .0),
+      size-of (c .before .before .before .before .before .loop-test .taken) (l .inv .2),
       l .inv .4,
       l .inv .5,
-      record { old = _; lent = _; lent-fits = z .log-fits; within = hand-start (open′ .result) (within-open (z .sound) two known (z .some-worker) (z .few-workers) (l .inv .6) (open′ .ensures) (c .before .lowest .ensures)) },
+      record { old = _; lent = _; lent-fits = c .before .before .before .before .before .before .before .before .before .before .before .before .before .before .before .before .before .before .before .before .before .before .before .before .before .before .before .before .before .before .before .before .before .before .before .before .before .before .pre .0 .log-fits; within = opened (c .before) },
       carried-start _ _ _ _ _ _ _ _ _ _ _,
       some-workers,
     )
@@ -169,13 +174,10 @@ held-inside c =
 
 step-requires : tie.Need-step-requires Inv-loop2 μ-loop2 Inv-loop μ-loop
 step-requires c κs =
-    let loop2-test′ = c .before .before .before .before .before .before .before .loop2-test in
-    let whose-turn′ = c .before .before .before .before .before .before .whose-turn in
-    let z = c .before .before .before .before .before .before .before .before .before .before .before .before .before .before .before .before .before .before .before .before .before .before .before .before .before .before .before .before .before .before .before .before .before .before .before .before .before .before .before .before .before .before .before .before .before .before .before .pre .0 in
-    let m = c .before .before .before .before .before .before .before .before .loop2 in
-    let u = m .inv .5 in
-    let h = in-hand (c .before .before .before .before .before) in
-    (within-board (z .sound) (m .inv .1) (m .inv .2) (u .lent-fits) (z .turns-known) (u .within) (loop2-test′ .taken) (m .inv .0), ready-read (set (m .workers) (m .held) (m .worker)) (whose-turn′ .result) (c .before .before .before .before .before .if1 .worker) (h .worker) (within-ready (z .sound) (m .inv .1) (m .inv .2) (u .lent-fits) (z .turns-known) (u .within) (loop2-test′ .taken) (whose-turn′ .ensures)))
+    let j = c .before .before .before .before .before in
+    let z = j .before .before .before .before .before .before .before .before .before .before .before .before .before .before .before .before .before .before .before .before .before .before .before .before .before .before .before .before .before .before .before .before .before .before .before .before .before .before .before .before .before .before .pre .0 in
+    let m = j .before .before .before .loop2 in
+    hand-ready (z .sound) (m .inv .1) (m .inv .2) (z .turns-known) (m .inv .5) (m .inv .0) (j .before .before .loop2-test .taken) (j .before .whose-turn .ensures) (in-hand j)
 
 note-requires : tie.Need-note-requires Inv-loop2 μ-loop2 Inv-loop μ-loop
 note-requires c κs =
@@ -257,11 +259,10 @@ loop-less c = less-size (c .before .before .before .before .before .before .befo
 
 loop-again : tie.Need-loop-again Inv-loop2 μ-loop2 Inv-loop μ-loop
 loop-again c =
-    let open′ = c .before .before .before .before .«open» in
     let z = c .before .before .before .before .before .before .before .before .before .before .before .before .before .before .before .before .before .before .before .before .before .before .before .before .before .before .before .before .before .before .before .before .before .before .before .before .before .before .before .before .pre .0 in
     let l = c .before .before .before .before .before .before .before .before .loop in
     let m = c .before .loop2 in
-    let w = m .inv .6 .carry _ _ (z .log-fits) (hand-start (open′ .result) (within-open (z .sound) (m .inv .1) (m .inv .2) (z .some-worker) (z .few-workers) (l .inv .6) (open′ .ensures) (c .before .before .before .lowest .ensures))) in (
+    let w = m .inv .6 .carry _ _ (z .log-fits) (opened (c .before .before .before)) in (
       below-two (m .inv .1),
       m .inv .2,
       l .inv .2,
