@@ -380,3 +380,15 @@ count-less starts s k e h i = i ∙ ap₂ (λ (a b : ℕ). a + b) e (sym (rw (ne
 -- ---- the first driving row of a size
 pub first-row : (g : Graph) (s : ℕ) → 2 ≤ s → s ≤ tableCount g → RowFrom g s 1 (startOf g 1) 0
 first-row g s two known = record { two = two; known = known; from-one = omega arith; to-half = omega arith; row-from = omega arith; row-to = start-mono g 1 2 (omega arith); at-end = λ q. refl; ahead = sym (ahead-zero g s) }
+
+-- ---- the same where the search cites them, one law a need: the types at its places are long
+module _ {g : Graph} {sets cells starts cellStarts : List ℕ} {s : ℕ} {h : Share} {d i x base end cell first j x₀ : ℕ} {own : Span} (good : GoodGraph g) (z : Ground g sets cells starts cellStarts) (sh : ShareOf g s h)
+    (r : Rowed g sets cells s h d i x base end cell first own) (w : Walked g sets (getD sets i 0) own j) (a : x₀ ≤ x) (c : Clear g s h x₀ x) where
+  -- a row is done
+  pub row-done : own .end ≤ j → (x₀ ≤ x + (end - first)) × RowFrom g s d (i + 1) (x + (end - first)) × Clear g s h x₀ (x + (end - first))
+  row-done l = (omega arith, rowed-next g sets cells starts cellStarts z good s h sh d i x base end cell first own r j w l, clear-on g s h x₀ x (x + (end - first)) c (rowed-clear g sets cells starts cellStarts z good s h sh d i x base end cell first own r j w l))
+
+  -- a pair is found, at the place that the loops leave
+  pub pair-found : j < own .end → {b : Bool} → b ≡ isJoinable g (getD sets i 0) (getD sets j 0) → b ≡ true → first ≡ firstOf starts s d i → {i′ j′ x′ first′ : ℕ} → i′ ≡ i → j′ ≡ j → x′ ≡ x → first′ ≡ firstOf starts s d i′
+      → NextFrom g s h x₀ (record { left = true; size = d; row = i′; inner = j′; number = x′ + (j′ - first′) })
+  pair-found l e t f p q n f′ = rw (f′ ∙ ap (firstOf starts s d) p ∙ sym f, p, q, n) (rowed-found g sets cells starts cellStarts z good s h sh d i x base end cell first own r j w x₀ a c l e t)

@@ -2,21 +2,27 @@
 use mathlib.Core.Path.{_≡_, refl, sym, ap, _∙_}
 use mathlib.Core.Bool.{true, false}
 use mathlib.Core.List.{List}
-use Prim.Native.Nat.{ℕ, _<_}
+use Prim.Native.Nat.{ℕ, _+_, _-_, _≤_, _<_}
 use native.Mathlib.Decide.{ℕ-discrete}
-use lib.ListN.{length, set}
+use lib.ListN.{length, getD, set}
 use lib.Seq.{getD-set-same, getD-set-other, set-getD, set-set}
+use Rattle.rules.specs.Limits.{maxWorkers}
 use Rattle.rules.specs.declared.Scheme.{Scheme}
-use Rattle.rules.specs.Query.{Graph, Query}
+use Rattle.rules.specs.Query.{Graph, Query, tableCount}
 use Rattle.rules.specs.Refusals.{Memory}
+use Rattle.rules.specs.Checked.{Sound}
 use Rattle.rules.specs.laws.Bools.{not-both}
 use Rattle.crew.specs.declared.Worker.{Worker}
 use Rattle.crew.specs.declared.Handed as code
 use Rattle.crew.specs.Workers.{nobody, workerAt}
-use Rattle.crew.specs.Whose.{LowestLeft}
-use Rattle.turns.specs.Standing.{Columns, StepTaken, TurnTaken}
-use Rattle.turns.specs.StepLaws.{turn-of}
-use Rattle.runs.specs.Runs.{Within}
+use Rattle.crew.specs.Whose.{LowestLeft, whose, entriesOn}
+use Rattle.crew.specs.Logs.{notedIf, countIf}
+use Rattle.turns.specs.Standing.{Columns, Ready, Board, StepTaken, TurnTaken}
+use Rattle.turns.specs.QueueLaws.{stillMet}
+use Rattle.turns.specs.StepLaws.{turn-of, ready-read}
+use Rattle.turns.specs.StartLaws.{Prepared}
+use Rattle.runs.specs.Runs.{Within, Underway, Carried}
+use Rattle.runs.specs.SearchLaws.{in-table, below-eight, whose-known, within-less, within-board, within-ready, carried-turn, underway-turn}
 
 -- the worker in hand, v, is worker w of the table
 pub record InHand (table workers : List Worker) (held w : ℕ) (v : Worker) : Type 0 where
@@ -70,3 +76,50 @@ module _ {g : Graph} {fixed outer inner result : List ℕ} {s w held : ℕ} {tab
       left : low < m → Dec (low ≡ w) → workerAt (set table w v′) low .place .left ≡ true
       left l (yes i) = rw i (ap (λ (x : Worker). x .place .left) (getD-set-same table w v′ nobody inside) ∙ e)
       left l (no n) = ap (λ (x : Worker). x .place .left) (getD-set-other table w low v′ nobody n) ∙ z .left l
+
+-- ---- its turn in the loop
+-- what it leaves: fewer turns, and with the next lowest worker, kept in hand, what holds at the next turn
+pub record Turned (q : Query) (scheme : Scheme) (m : ℕ) (turns : List ℕ) (s low₀ : ℕ) (workers₀ : List Worker) (at₀ pairs₀ : ℕ) (c₀ : Columns) (log₀ : Memory) (low at : ℕ) (table workers : List Worker) (held : ℕ) (v′ : Worker)
+    (at′ pairs′ : ℕ) (new : Columns) (log′ : Memory) : Type 0 where
+  pub inside : held < maxWorkers
+  pub less : length turns - at′ + stillMet (q .graph) s m (set workers held v′) < length turns - at + stillMet (q .graph) s m table
+  pub lowest : v′ .place .left ≡ true → LowestLeft (set workers held v′) m low
+  pub underway : {low′ : ℕ} → LowestLeft (set workers held v′) m low′ → Underway q scheme m turns s low′ (set workers held v′) at′ pairs′ new log′
+  pub carried : {low′ : ℕ} → LowestLeft (set workers held v′) m low′ → Carried q scheme m turns s low₀ workers₀ at₀ pairs₀ c₀ log₀ low′ (set workers held v′) at′ pairs′ new log′
+
+pub hand-turned : {q : Query} {scheme : Scheme} {m s low at pairs : ℕ} {turns : List ℕ} {table : List Worker} {c : Columns} {log : Memory} → Sound q → 2 ≤ s → s ≤ tableCount (q .graph) → m ≤ maxWorkers → ((j : ℕ) → j < length turns → getD turns j 0 < m)
+    → Underway q scheme m turns s low table at pairs c log → {low₀ at₀ pairs₀ : ℕ} {workers₀ : List Worker} {c₀ : Columns} {log₀ : Memory} → Carried q scheme m turns s low₀ workers₀ at₀ pairs₀ c₀ log₀ low table at pairs c log
+    → low < m → {w : ℕ} → w ≡ whose turns at low → {workers : List Worker} {held : ℕ} {v v′ : Worker} {new : Columns} {pair : code.Handed} → InHand table workers held w v
+    → StepTaken (q .graph) (q .fixed) (q .perOuter) (q .perInner) (q .perResult) s v v′ c new pair → {at′ pairs′ : ℕ} {log′ : Memory} → at′ ≡ entriesOn (length turns) at → (pairs′ ≡ countIf pairs pair) × (log′ ≡ notedIf log pairs w pair)
+    → Turned q scheme m turns s low₀ workers₀ at₀ pairs₀ c₀ log₀ low at table workers held v′ at′ pairs′ new log′
+hand-turned {table = table} sound two known few entries u z more e h t a n =
+    let i = below-eight (whose-known sound two known (u .lent-fits) entries (u .within) more e) few in
+    let l = in-table table i (u .within .running .tally .table) in
+    let o = hand-turn l h t in
+    record {
+      inside = rw (h .whose) i;
+      less = rw a (within-less sound two known (u .lent-fits) entries (u .within) more e o);
+      lowest = hand-lowest l h t (u .within .lowest);
+      underway = λ k. underway-turn sound two known entries u more e o k (n .1) a (n .0);
+      carried = λ k. carried-turn sound two known entries z more e o k (n .1) a (n .0);
+    }
+
+-- and the same where it is put down as well
+module _ {q : Query} {scheme : Scheme} {m : ℕ} {turns : List ℕ} {s low₀ : ℕ} {workers₀ : List Worker} {at₀ pairs₀ : ℕ} {c₀ : Columns} {log₀ : Memory} {low at : ℕ} {table workers : List Worker} {held : ℕ} {v′ : Worker} {at′ pairs′ : ℕ} {new : Columns}
+    {log′ : Memory} (t : Turned q scheme m turns s low₀ workers₀ at₀ pairs₀ c₀ log₀ low at table workers held v′ at′ pairs′ new log′) where
+  pub down-less : length turns - at′ + stillMet (q .graph) s m (set (set workers held v′) held v′) < length turns - at + stillMet (q .graph) s m table
+  down-less = rw (put-down workers held v′) (t .less)
+
+  module _ {low′ : ℕ} (l : LowestLeft (set workers held v′) m low′) where
+    pub down-underway : Underway q scheme m turns s low′ (set (set workers held v′) held v′) at′ pairs′ new log′
+    down-underway = rw (put-down workers held v′) (t .underway l)
+
+    pub down-carried : Carried q scheme m turns s low₀ workers₀ at₀ pairs₀ c₀ log₀ low′ (set (set workers held v′) held v′) at′ pairs′ new log′
+    down-carried = rw (put-down workers held v′) (t .carried l)
+
+-- what its turn may rely on
+pub hand-ready : {q : Query} {scheme : Scheme} {m s low at pairs : ℕ} {turns : List ℕ} {table : List Worker} {c : Columns} {log : Memory} → Sound q → 2 ≤ s → s ≤ tableCount (q .graph) → ((j : ℕ) → j < length turns → getD turns j 0 < m)
+    → Underway q scheme m turns s low table at pairs c log → {sets estimates cells starts cellStarts : List ℕ} → Prepared q sets estimates cells starts cellStarts → low < m → {w : ℕ} → w ≡ whose turns at low
+    → {workers : List Worker} {held : ℕ} {v : Worker} → InHand table workers held w v
+    → Board (q .graph) (q .fixed) (q .perOuter) (q .perInner) (q .perResult) sets estimates cells starts cellStarts s c × Ready (q .graph) s v
+hand-ready {table = table} sound two known entries u p more {w = w} e {v = v} h = (within-board sound two known (u .lent-fits) entries (u .within) more p, ready-read table w v (h .worker) (within-ready sound two known (u .lent-fits) entries (u .within) more e))

@@ -1,6 +1,8 @@
 use mathlib.Core.Path.{_≡_, refl, sym, ap, _∙_}
+use lib.ListN.{length}
 use Rattle.rules.specs.Refusals.{Input, firstOf, checks}
 use Rattle.query.specs.Lists.{queryOf}
+use Rattle.memo.specs.Layout.{lent, lentOf, LaidOut}
 use Rattle.rules.specs.declared.Verdict.{Verdict}
 use Rattle.planner.specs.Plans.{memoryOf, inputOf}
 use Rattle.planner.specs.PlanLaws.{checks-are, refused-answer, lay-ready, laid-lengths, planned-checks, planned-rooms, search-ready, rows-some, rows-few, rows-fit, last-cell, last-in, scheme-known, planned-given}
@@ -43,32 +45,36 @@ lay-out-requires c κs =
     let r = lay-ready i e in
     (r .0, (r .1, c .before .before .before .before .before .before .before .tally .ensures .0))
 
+-- what laying out left, in the shortest paths: the needs behind it are compared with these
+laid : (c : tie.After-lay-out) → let i = input (c .before .before .before .before .before .before .before .before .before .before .before .before .before .before .before .before .before .before .before .before .before .before .before .before .before .before .before .before .before .before .before .before) in LaidOut (i .query .graph) (lentOf (i .lent)) (lent (c .lay-out .last .1 .1 .1 .1 .1 .0) (c .lay-out .last .1 .1 .1 .1 .1 .1 .0) (c .lay-out .last .1 .1 .1 .1 .1 .1 .1 .0) (c .lay-out .last .1 .1 .1 .1 .1 .1 .1 .1 .0) (c .lay-out .last .1 .1 .1 .1 .1 .1 .1 .1 .1 .0) (c .lay-out .last .1 .1 .1 .1 .1 .1 .1 .1 .1 .1 .0)) (c .lay-out .result)
+laid c = c .lay-out .ensures
+
 refused-requires-2 : tie.Need-refused-requires-2
 refused-requires-2 c κs = tt
 
 same-length : tie.Need-same-length
-same-length c = laid-lengths (c .before .before .before .before .before .before .before .before .before .before .before .before .before .before .before .lay-out .ensures) .sets
+same-length c = laid-lengths (laid (c .before .before .before .before .before .before .before .before .before .before .before .before .before .before .before)) .sets
 
 same-length-2 : tie.Need-same-length-2
-same-length-2 c = laid-lengths (c .before .before .before .before .before .before .before .before .before .before .before .before .before .before .before .lay-out .ensures) .estimates
+same-length-2 c = laid-lengths (laid (c .before .before .before .before .before .before .before .before .before .before .before .before .before .before .before)) .estimates
 
 same-length-3 : tie.Need-same-length-3
-same-length-3 c = laid-lengths (c .before .before .before .before .before .before .before .before .before .before .before .before .before .before .before .lay-out .ensures) .costs
+same-length-3 c = laid-lengths (laid (c .before .before .before .before .before .before .before .before .before .before .before .before .before .before .before)) .costs
 
 same-length-4 : tie.Need-same-length-4
-same-length-4 c = laid-lengths (c .before .before .before .before .before .before .before .before .before .before .before .before .before .before .before .lay-out .ensures) .outers
+same-length-4 c = laid-lengths (laid (c .before .before .before .before .before .before .before .before .before .before .before .before .before .before .before)) .outers
 
 same-length-5 : tie.Need-same-length-5
-same-length-5 c = laid-lengths (c .before .before .before .before .before .before .before .before .before .before .before .before .before .before .before .lay-out .ensures) .methods
+same-length-5 c = laid-lengths (laid (c .before .before .before .before .before .before .before .before .before .before .before .before .before .before .before)) .methods
 
 same-length-6 : tie.Need-same-length-6
-same-length-6 c = laid-lengths (c .before .before .before .before .before .before .before .before .before .before .before .before .before .before .before .lay-out .ensures) .skips
+same-length-6 c = laid-lengths (laid (c .before .before .before .before .before .before .before .before .before .before .before .before .before .before .before)) .skips
 
 returns-2 : tie.Need-returns-2
 returns-2 c =
     let i = input (c .before .before .before .before .before .before .before .before .before .before .before .before .before .before .before .before .before .before .before .before .before .before .before .before .before .before .before .before .before .before .before .before .before .before .before .before .before .before .before .before .before .before .before .before .before .before .before) in
     let e = passed (c .before .before .before .before .before .before .before .before .before .before .before .before .before .before .before .before .before .before .before .before .before .before .before .before) in
-    let z = c .before .before .before .before .before .before .before .before .before .before .before .before .before .before .before .lay-out .ensures in
+    let z = laid (c .before .before .before .before .before .before .before .before .before .before .before .before .before .before .before) in
     planned-rooms i e z (c .before .if2 .taken) (refused-answer _ 0 (c .refused2 .ensures))
     (λ q t. memoryOf (q t .sets) (q t .estimates) (q t .costs) (q t .outers) (q t .methods) (q t .skips) (i .lent .logWorkers) (i .lent .logDriving) (i .lent .logInner) (i .lent .logCosts))
 
@@ -76,7 +82,7 @@ known-requires : tie.Need-known-requires
 known-requires c κs =
     let i = input (c .before .before .before .before .before .before .before .before .before .before .before .before .before .before .before .before .before .before .before .before .before .before .before .before .before .before .before .before .before .before .before .before .before .before .before .before .before .before .before .before .before .before .before .before .before .before) in
     let e = passed (c .before .before .before .before .before .before .before .before .before .before .before .before .before .before .before .before .before .before .before .before .before .before .before) in
-    let z = c .before .before .before .before .before .before .before .before .before .before .before .before .before .before .lay-out .ensures in
+    let z = laid (c .before .before .before .before .before .before .before .before .before .before .before .before .before .before) in
     scheme-known i e z (c .if2 .left)
 
 slice-aggregate-search : tie.Need-slice-aggregate-search
@@ -86,82 +92,74 @@ search-requires : tie.Need-search-requires
 search-requires c κs =
     let i = input (c .before .before .before .before .before .before .before .before .before .before .before .before .before .before .before .before .before .before .before .before .before .before .before .before .before .before .before .before .before .before .before .before .before .before .before .before .before .before .before .before .before .before .before .before .before .before .before .before .before .before .before .before .before .before .before .before .before .before) in
     let e = passed (c .before .before .before .before .before .before .before .before .before .before .before .before .before .before .before .before .before .before .before .before .before .before .before .before .before .before .before .before .before .before .before .before .before .before .before) in
-    let z = c .before .before .before .before .before .before .before .before .before .before .before .before .before .before .before .before .before .before .before .before .before .before .before .before .before .before .lay-out .ensures in
+    let z = laid (c .before .before .before .before .before .before .before .before .before .before .before .before .before .before .before .before .before .before .before .before .before .before .before .before .before .before) in
     (search-ready i e z (c .before .before .before .before .before .before .before .before .before .before .before .before .if2 .left), c .before .before .before .before .before .before .before .before .before .before .before .before .before .before .before .before .before .before .before .before .before .before .before .before .before .before .before .before .before .before .before .before .before .before .tally .ensures .0)
 
 sub-t28 : tie.Need-sub-t28
 sub-t28 c =
     let i = input (c .before .before .before .before .before .before .before .before .before .before .before .before .before .before .before .before .before .before .before .before .before .before .before .before .before .before .before .before .before .before .before .before .before .before .before .before .before .before .before .before .before .before .before .before .before .before .before .before .before .before .before .before .before .before .before .before .before .before .before .before .before .before .before .before .before .before .before .before .before .before .before .before .before .before) in
     let e = passed (c .before .before .before .before .before .before .before .before .before .before .before .before .before .before .before .before .before .before .before .before .before .before .before .before .before .before .before .before .before .before .before .before .before .before .before .before .before .before .before .before .before .before .before .before .before .before .before .before .before .before .before) in
-    let z = c .before .before .before .before .before .before .before .before .before .before .before .before .before .before .before .before .before .before .before .before .before .before .before .before .before .before .before .before .before .before .before .before .before .before .before .before .before .before .before .before .before .before .lay-out .ensures in
+    let z = laid (c .before .before .before .before .before .before .before .before .before .before .before .before .before .before .before .before .before .before .before .before .before .before .before .before .before .before .before .before .before .before .before .before .before .before .before .before .before .before .before .before .before .before) in
     rows-some i e z (c .before .before .before .before .before .before .before .before .before .before .before .before .before .before .before .before .before .before .before .before .before .before .before .before .before .before .before .before .if2 .left)
 
 mul-t30 : tie.Need-mul-t30
 mul-t30 c =
     let i = input (c .before .before .before .before .before .before .before .before .before .before .before .before .before .before .before .before .before .before .before .before .before .before .before .before .before .before .before .before .before .before .before .before .before .before .before .before .before .before .before .before .before .before .before .before .before .before .before .before .before .before .before .before .before .before .before .before .before .before .before .before .before .before .before .before .before .before .before .before .before .before .before .before .before .before) in
     let e = passed (c .before .before .before .before .before .before .before .before .before .before .before .before .before .before .before .before .before .before .before .before .before .before .before .before .before .before .before .before .before .before .before .before .before .before .before .before .before .before .before .before .before .before .before .before .before .before .before .before .before .before .before) in
-    let z = c .before .before .before .before .before .before .before .before .before .before .before .before .before .before .before .before .before .before .before .before .before .before .before .before .before .before .before .before .before .before .before .before .before .before .before .before .before .before .before .before .before .before .lay-out .ensures in
+    let z = laid (c .before .before .before .before .before .before .before .before .before .before .before .before .before .before .before .before .before .before .before .before .before .before .before .before .before .before .before .before .before .before .before .before .before .before .before .before .before .before .before .before .before .before) in
     last-cell (rows-few i e z (c .before .before .before .before .before .before .before .before .before .before .before .before .before .before .before .before .before .before .before .before .before .before .before .before .before .before .before .before .if2 .left))
 
 slice-read-t77 : tie.Need-slice-read-t77
 slice-read-t77 c =
     let i = input (c .before .before .before .before .before .before .before .before .before .before .before .before .before .before .before .before .before .before .before .before .before .before .before .before .before .before .before .before .before .before .before .before .before .before .before .before .before .before .before .before .before .before .before .before .before .before .before .before .before .before .before .before .before .before .before .before .before .before .before .before .before .before .before .before .before .before .before .before .before .before .before .before .before .before .before) in
     let e = passed (c .before .before .before .before .before .before .before .before .before .before .before .before .before .before .before .before .before .before .before .before .before .before .before .before .before .before .before .before .before .before .before .before .before .before .before .before .before .before .before .before .before .before .before .before .before .before .before .before .before .before .before .before) in
-    let z = c .before .before .before .before .before .before .before .before .before .before .before .before .before .before .before .before .before .before .before .before .before .before .before .before .before .before .before .before .before .before .before .before .before .before .before .before .before .before .before .before .before .before .before .lay-out .ensures in
+    let z = laid (c .before .before .before .before .before .before .before .before .before .before .before .before .before .before .before .before .before .before .before .before .before .before .before .before .before .before .before .before .before .before .before .before .before .before .before .before .before .before .before .before .before .before .before) in
     let d = c .before .before .before .before .before .before .before .before .before .before .before .before .before .before .before .before .search .ensures in
     last-in (rows-some i e z (c .before .before .before .before .before .before .before .before .before .before .before .before .before .before .before .before .before .before .before .before .before .before .before .before .before .before .before .before .before .if2 .left)) (rows-fit i e z (c .before .before .before .before .before .before .before .before .before .before .before .before .before .before .before .before .before .before .before .before .before .before .before .before .before .before .before .before .before .if2 .left)) (d .kept .costs .length-kept)
 
 same-length-7 : tie.Need-same-length-7
-same-length-7 c = laid-lengths (c .before .before .before .before .before .before .before .before .before .before .before .before .before .before .before .before .before .before .before .before .before .before .before .before .before .before .before .before .before .before .before .before .before .before .before .before .before .before .before .before .before .before .before .lay-out .ensures) .sets
+same-length-7 c = laid-lengths (laid (c .before .before .before .before .before .before .before .before .before .before .before .before .before .before .before .before .before .before .before .before .before .before .before .before .before .before .before .before .before .before .before .before .before .before .before .before .before .before .before .before .before .before .before)) .sets
 
 same-length-8 : tie.Need-same-length-8
-same-length-8 c = laid-lengths (c .before .before .before .before .before .before .before .before .before .before .before .before .before .before .before .before .before .before .before .before .before .before .before .before .before .before .before .before .before .before .before .before .before .before .before .before .before .before .before .before .before .before .before .lay-out .ensures) .estimates
+same-length-8 c = laid-lengths (laid (c .before .before .before .before .before .before .before .before .before .before .before .before .before .before .before .before .before .before .before .before .before .before .before .before .before .before .before .before .before .before .before .before .before .before .before .before .before .before .before .before .before .before .before)) .estimates
 
 same-length-9 : tie.Need-same-length-9
-same-length-9 c = c .before .before .before .before .before .before .before .before .before .before .before .before .before .before .before .before .search .ensures .kept .costs .length-kept ∙ laid-lengths (c .before .before .before .before .before .before .before .before .before .before .before .before .before .before .before .before .before .before .before .before .before .before .before .before .before .before .before .before .before .before .before .before .before .before .before .before .before .before .before .before .before .before .before .lay-out .ensures) .costs
+same-length-9 c = c .before .before .before .before .before .before .before .before .before .before .before .before .before .before .before .before .search .ensures .kept .costs .length-kept ∙ laid-lengths (laid (c .before .before .before .before .before .before .before .before .before .before .before .before .before .before .before .before .before .before .before .before .before .before .before .before .before .before .before .before .before .before .before .before .before .before .before .before .before .before .before .before .before .before .before)) .costs
 
 same-length-10 : tie.Need-same-length-10
-same-length-10 c = c .before .before .before .before .before .before .before .before .before .before .before .before .before .before .before .before .search .ensures .kept .outers .length-kept ∙ laid-lengths (c .before .before .before .before .before .before .before .before .before .before .before .before .before .before .before .before .before .before .before .before .before .before .before .before .before .before .before .before .before .before .before .before .before .before .before .before .before .before .before .before .before .before .before .lay-out .ensures) .outers
+same-length-10 c = c .before .before .before .before .before .before .before .before .before .before .before .before .before .before .before .before .search .ensures .kept .outers .length-kept ∙ laid-lengths (laid (c .before .before .before .before .before .before .before .before .before .before .before .before .before .before .before .before .before .before .before .before .before .before .before .before .before .before .before .before .before .before .before .before .before .before .before .before .before .before .before .before .before .before .before)) .outers
 
 same-length-11 : tie.Need-same-length-11
-same-length-11 c = c .before .before .before .before .before .before .before .before .before .before .before .before .before .before .before .before .search .ensures .kept .methods .length-kept ∙ laid-lengths (c .before .before .before .before .before .before .before .before .before .before .before .before .before .before .before .before .before .before .before .before .before .before .before .before .before .before .before .before .before .before .before .before .before .before .before .before .before .before .before .before .before .before .before .lay-out .ensures) .methods
+same-length-11 c = c .before .before .before .before .before .before .before .before .before .before .before .before .before .before .before .before .search .ensures .kept .methods .length-kept ∙ laid-lengths (laid (c .before .before .before .before .before .before .before .before .before .before .before .before .before .before .before .before .before .before .before .before .before .before .before .before .before .before .before .before .before .before .before .before .before .before .before .before .before .before .before .before .before .before .before)) .methods
 
 same-length-12 : tie.Need-same-length-12
-same-length-12 c = laid-lengths (c .before .before .before .before .before .before .before .before .before .before .before .before .before .before .before .before .before .before .before .before .before .before .before .before .before .before .before .before .before .before .before .before .before .before .before .before .before .before .before .before .before .before .before .lay-out .ensures) .skips
+same-length-12 c = laid-lengths (laid (c .before .before .before .before .before .before .before .before .before .before .before .before .before .before .before .before .before .before .before .before .before .before .before .before .before .before .before .before .before .before .before .before .before .before .before .before .before .before .before .before .before .before .before)) .skips
+
+-- the log keeps its lengths: once, for the four needs that ask it
+same-log : (c : tie.After-search) → let l = input (c .before .before .before .before .before .before .before .before .before .before .before .before .before .before .before .before .before .before .before .before .before .before .before .before .before .before .before .before .before .before .before .before .before .before .before .before .before .before .before .before .before .before .before .before .before .before .before .before .before .before .before .before .before .before .before .before .before .before .before) .lent in (length (c .search .last .1 .1 .1 .1 .1 .1 .1 .1 .1 .1 .1 .1 .1 .1 .1 .1 .1 .1 .1 .0) ≡ length (l .logWorkers)) × (length (c .search .last .1 .1 .1 .1 .1 .1 .1 .1 .1 .1 .1 .1 .1 .1 .1 .1 .1 .1 .1 .1 .0) ≡ length (l .logDriving)) × (length (c .search .last .1 .1 .1 .1 .1 .1 .1 .1 .1 .1 .1 .1 .1 .1 .1 .1 .1 .1 .1 .1 .1 .0) ≡ length (l .logInner)) × (length (c .search .last .1 .1 .1 .1 .1 .1 .1 .1 .1 .1 .1 .1 .1 .1 .1 .1 .1 .1 .1 .1 .1 .1 .0) ≡ length (l .logCosts))
+same-log c =
+    let i = input (c .before .before .before .before .before .before .before .before .before .before .before .before .before .before .before .before .before .before .before .before .before .before .before .before .before .before .before .before .before .before .before .before .before .before .before .before .before .before .before .before .before .before .before .before .before .before .before .before .before .before .before .before .before .before .before .before .before .before .before) in
+    let e = passed (c .before .before .before .before .before .before .before .before .before .before .before .before .before .before .before .before .before .before .before .before .before .before .before .before .before .before .before .before .before .before .before .before .before .before .before .before) in
+    let z = laid (c .before .before .before .before .before .before .before .before .before .before .before .before .before .before .before .before .before .before .before .before .before .before .before .before .before .before .before) in
+    logged-lengths (c .search .ensures .logged) (search-ready i e z (c .before .before .before .before .before .before .before .before .before .before .before .before .before .if2 .left) .log-fits)
 
 same-length-13 : tie.Need-same-length-13
-same-length-13 c =
-    let i = input (c .before .before .before .before .before .before .before .before .before .before .before .before .before .before .before .before .before .before .before .before .before .before .before .before .before .before .before .before .before .before .before .before .before .before .before .before .before .before .before .before .before .before .before .before .before .before .before .before .before .before .before .before .before .before .before .before .before .before .before .before .before .before .before .before .before .before .before .before .before .before .before .before .before .before .before) in
-    let e = passed (c .before .before .before .before .before .before .before .before .before .before .before .before .before .before .before .before .before .before .before .before .before .before .before .before .before .before .before .before .before .before .before .before .before .before .before .before .before .before .before .before .before .before .before .before .before .before .before .before .before .before .before .before) in
-    let z = c .before .before .before .before .before .before .before .before .before .before .before .before .before .before .before .before .before .before .before .before .before .before .before .before .before .before .before .before .before .before .before .before .before .before .before .before .before .before .before .before .before .before .before .lay-out .ensures in
-    logged-lengths (c .before .before .before .before .before .before .before .before .before .before .before .before .before .before .before .before .search .ensures .logged) (search-ready i e z (c .before .before .before .before .before .before .before .before .before .before .before .before .before .before .before .before .before .before .before .before .before .before .before .before .before .before .before .before .before .if2 .left) .log-fits) .0
+same-length-13 c = same-log (c .before .before .before .before .before .before .before .before .before .before .before .before .before .before .before .before) .0
 
 same-length-14 : tie.Need-same-length-14
-same-length-14 c =
-    let i = input (c .before .before .before .before .before .before .before .before .before .before .before .before .before .before .before .before .before .before .before .before .before .before .before .before .before .before .before .before .before .before .before .before .before .before .before .before .before .before .before .before .before .before .before .before .before .before .before .before .before .before .before .before .before .before .before .before .before .before .before .before .before .before .before .before .before .before .before .before .before .before .before .before .before .before .before) in
-    let e = passed (c .before .before .before .before .before .before .before .before .before .before .before .before .before .before .before .before .before .before .before .before .before .before .before .before .before .before .before .before .before .before .before .before .before .before .before .before .before .before .before .before .before .before .before .before .before .before .before .before .before .before .before .before) in
-    let z = c .before .before .before .before .before .before .before .before .before .before .before .before .before .before .before .before .before .before .before .before .before .before .before .before .before .before .before .before .before .before .before .before .before .before .before .before .before .before .before .before .before .before .before .lay-out .ensures in
-    logged-lengths (c .before .before .before .before .before .before .before .before .before .before .before .before .before .before .before .before .search .ensures .logged) (search-ready i e z (c .before .before .before .before .before .before .before .before .before .before .before .before .before .before .before .before .before .before .before .before .before .before .before .before .before .before .before .before .before .if2 .left) .log-fits) .1
+same-length-14 c = same-log (c .before .before .before .before .before .before .before .before .before .before .before .before .before .before .before .before) .1
 
 same-length-15 : tie.Need-same-length-15
-same-length-15 c =
-    let i = input (c .before .before .before .before .before .before .before .before .before .before .before .before .before .before .before .before .before .before .before .before .before .before .before .before .before .before .before .before .before .before .before .before .before .before .before .before .before .before .before .before .before .before .before .before .before .before .before .before .before .before .before .before .before .before .before .before .before .before .before .before .before .before .before .before .before .before .before .before .before .before .before .before .before .before .before) in
-    let e = passed (c .before .before .before .before .before .before .before .before .before .before .before .before .before .before .before .before .before .before .before .before .before .before .before .before .before .before .before .before .before .before .before .before .before .before .before .before .before .before .before .before .before .before .before .before .before .before .before .before .before .before .before .before) in
-    let z = c .before .before .before .before .before .before .before .before .before .before .before .before .before .before .before .before .before .before .before .before .before .before .before .before .before .before .before .before .before .before .before .before .before .before .before .before .before .before .before .before .before .before .before .lay-out .ensures in
-    logged-lengths (c .before .before .before .before .before .before .before .before .before .before .before .before .before .before .before .before .search .ensures .logged) (search-ready i e z (c .before .before .before .before .before .before .before .before .before .before .before .before .before .before .before .before .before .before .before .before .before .before .before .before .before .before .before .before .before .if2 .left) .log-fits) .2
+same-length-15 c = same-log (c .before .before .before .before .before .before .before .before .before .before .before .before .before .before .before .before) .2
 
 same-length-16 : tie.Need-same-length-16
-same-length-16 c =
-    let i = input (c .before .before .before .before .before .before .before .before .before .before .before .before .before .before .before .before .before .before .before .before .before .before .before .before .before .before .before .before .before .before .before .before .before .before .before .before .before .before .before .before .before .before .before .before .before .before .before .before .before .before .before .before .before .before .before .before .before .before .before .before .before .before .before .before .before .before .before .before .before .before .before .before .before .before .before) in
-    let e = passed (c .before .before .before .before .before .before .before .before .before .before .before .before .before .before .before .before .before .before .before .before .before .before .before .before .before .before .before .before .before .before .before .before .before .before .before .before .before .before .before .before .before .before .before .before .before .before .before .before .before .before .before .before) in
-    let z = c .before .before .before .before .before .before .before .before .before .before .before .before .before .before .before .before .before .before .before .before .before .before .before .before .before .before .before .before .before .before .before .before .before .before .before .before .before .before .before .before .before .before .before .lay-out .ensures in
-    logged-lengths (c .before .before .before .before .before .before .before .before .before .before .before .before .before .before .before .before .search .ensures .logged) (search-ready i e z (c .before .before .before .before .before .before .before .before .before .before .before .before .before .before .before .before .before .before .before .before .before .before .before .before .before .before .before .before .before .if2 .left) .log-fits) .3
+same-length-16 c = same-log (c .before .before .before .before .before .before .before .before .before .before .before .before .before .before .before .before) .3
 
 returns-3 : tie.Need-returns-3
 returns-3 c =
     let i = input (c .before .before .before .before .before .before .before .before .before .before .before .before .before .before .before .before .before .before .before .before .before .before .before .before .before .before .before .before .before .before .before .before .before .before .before .before .before .before .before .before .before .before .before .before .before .before .before .before .before .before .before .before .before .before .before .before .before .before .before .before .before .before .before .before .before .before .before .before .before .before .before .before .before .before .before) in
     let e = passed (c .before .before .before .before .before .before .before .before .before .before .before .before .before .before .before .before .before .before .before .before .before .before .before .before .before .before .before .before .before .before .before .before .before .before .before .before .before .before .before .before .before .before .before .before .before .before .before .before .before .before .before .before) in
-    let z = c .before .before .before .before .before .before .before .before .before .before .before .before .before .before .before .before .before .before .before .before .before .before .before .before .before .before .before .before .before .before .before .before .before .before .before .before .before .before .before .before .before .before .before .lay-out .ensures in
+    let z = laid (c .before .before .before .before .before .before .before .before .before .before .before .before .before .before .before .before .before .before .before .before .before .before .before .before .before .before .before .before .before .before .before .before .before .before .before .before .before .before .before .before .before .before .before) in
     planned-given i e z (c .before .before .before .before .before .before .before .before .before .before .before .before .before .before .before .before .before .before .before .before .before .before .before .before .before .before .before .before .before .if2 .left) (c .before .before .before .before .before .before .before .before .before .before .before .before .before .before .before .before .before .before .before .before .before .before .before .before .before .before .before .before .known .ensures) _ _ (c .before .before .before .before .before .before .before .before .before .before .before .before .before .before .before .before .search .ensures) refl refl refl refl refl refl refl refl
 
 pub plan-spec : {M : Type 1} → statement M

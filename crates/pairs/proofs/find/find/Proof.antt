@@ -4,11 +4,12 @@ use Prim.Native.Nat.{_+_, _-_, _≤_}
 use native.Mathlib.Nat.{le-refl}
 use lib.ListN.{getD}
 use Rattle.rules.specs.Query.{graphOf}
+use Rattle.shares.specs.Shares.{few}
 use Rattle.pairs.specs.Places.{firstOf, RowFrom}
 use Rattle.pairs.specs.SpanLaws.{share-fits}
 use Rattle.pairs.specs.LeafLaws.{Walked, walked-none, walked-on}
-use Rattle.pairs.specs.FindLaws.{Clear, clear-none, clear-on, Sized, sized-of, Rowed, few-all, sets-inside, first-le-end, rowed-few, rowed-of, rowed-clear, rowed-next, rowed-place, rowed-found, size-next, none-left}
-use Rattle.pairs.specs.FitLaws.{few-fit, few-cell, cell-fits, row-fits, place-fits, row-few, part-few, le-same, le-more, not-past, half-le, less-size, less-row, less-inner, inner-fits, end-fits, end-cell-fits, size-fits, next-size-fits, next-cell-fits, inner-in, end-in, size-in, next-size-in, first-ready, rows-forward, row-behind, rows-done}
+use Rattle.pairs.specs.FindLaws.{Clear, clear-none, Sized, sized-of, Rowed, few-all, sets-inside, first-le-end, rowed-few, rowed-of, rowed-place, row-done, pair-found, size-next, none-left}
+use Rattle.pairs.specs.FitLaws.{few-fit, few-cell, cell-fits, row-fits, place-fits, row-few, part-few, le-same, not-past, half-le, less-size, less-row, less-inner, inner-fits, end-fits, end-cell-fits, size-fits, next-size-fits, next-cell-fits, inner-in, end-in, size-in, next-size-in, first-ready, rows-forward, row-behind, rows-done}
 use Rattle.pairs.proofs.find.find.Statement.{statement}
 use Rattle.pairs.proofs.find.find.Tie as tie
 
@@ -90,13 +91,18 @@ loop-holds c =
     let f = c .before .before .before .before .before .before .find in
     (sized-of g (s .args .sets .now) (s .args .skips .now) (s .args .starts .now) (s .args .cells .now) (s .pre .1 .0) (s .pre .0) (s .args .s) (s .args .share) (s .pre .1 .1 .0) (f .d) (f .i) (f .number) (f .inv .1) (c .before .before .before .before .before .find-test .taken), f .inv .0, f .inv .1, f .inv .2)
 
-mul-x : tie.Need-mul-x Inv-loop2 μ-loop2 Inv-loop μ-loop Inv-find μ-find
-mul-x c =
+-- few rows and candidates come to a driving row, stated once in the shortest paths
+few-row : (c : tie.In-loop Inv-loop2 μ-loop2 Inv-loop μ-loop Inv-find μ-find)
+    → let a = c .before .before .before .before .before .before .before .before .before .before .before .before .before .before .before .before .before .args in let d = c .before .before .before .before .before .before .before .before .find .d in let starts = a .starts .now in (c .before .loop .number ≤ few) × (getD starts (a .s - d + 1) 0 ≤ few) × (getD starts (d + 1) 0 ≤ few)
+few-row c =
     let s = c .before .before .before .before .before .before .before .before .before .before .before .before .before .before .before .before .before in
     let g = graphOf (s .args .rows .now) (s .args .left .now) (s .args .right .now) (s .args .divisors .now) in
     let f = c .before .before .before .before .before .before .before .before .find in
     let l = c .before .loop in
-    cell-fits (c .loop-test .taken) (few-all g (s .args .sets .now) (s .args .skips .now) (s .args .starts .now) (s .args .cells .now) (s .pre .1 .0) (s .pre .0) (s .args .s) (s .args .share) (s .pre .1 .1 .0) (f .d) (l .i) (l .number) _ _ _ _ _ (l .inv .2) (l .inv .0) (c .loop-test .taken) .2)
+    few-all g (s .args .sets .now) (s .args .skips .now) (s .args .starts .now) (s .args .cells .now) (s .pre .1 .0) (s .pre .0) (s .args .s) (s .args .share) (s .pre .1 .1 .0) (f .d) (l .i) (l .number) _ _ _ _ _ (l .inv .2) (l .inv .0) (c .loop-test .taken)
+
+mul-x : tie.Need-mul-x Inv-loop2 μ-loop2 Inv-loop μ-loop Inv-find μ-find
+mul-x c = cell-fits (c .loop-test .taken) (few-row c .2)
 
 shared-slice-read-x : tie.Need-shared-slice-read-x Inv-loop2 μ-loop2 Inv-loop μ-loop Inv-find μ-find
 shared-slice-read-x c =
@@ -108,11 +114,9 @@ shared-slice-read-x c =
 
 first-of-requires : tie.Need-first-of-requires Inv-loop2 μ-loop2 Inv-loop μ-loop Inv-find μ-find
 first-of-requires c κs =
-    let s = c .before .before .before .before .before .before .before .before .before .before .before .before .before .before .before .before .before .before in
-    let g = graphOf (s .args .rows .now) (s .args .left .now) (s .args .right .now) (s .args .divisors .now) in
-    let f = c .before .before .before .before .before .before .before .before .before .find in
+    let p = c .before .before .before .before .before .before .before .before .before .before .before .before .before .before .before .before .before .before .pre in
     let l = c .before .before .loop in
-    first-ready (s .pre .0) (l .inv .2) (l .inv .0 .half) (s .pre .1 .0 .starts-long) (row-few refl (c .before .loop-test .taken) (few-all g (s .args .sets .now) (s .args .skips .now) (s .args .starts .now) (s .args .cells .now) (s .pre .1 .0) (s .pre .0) (s .args .s) (s .args .share) (s .pre .1 .1 .0) (f .d) (l .i) (l .number) _ _ _ _ _ (l .inv .2) (l .inv .0) (c .before .loop-test .taken) .2))
+    first-ready (p .0) (l .inv .2) (l .inv .0 .half) (p .1 .0 .starts-long) (row-few refl (c .before .loop-test .taken) (few-row (c .before) .2))
 
 sub-span-of : tie.Need-sub-span-of Inv-loop2 μ-loop2 Inv-loop μ-loop Inv-find μ-find
 sub-span-of c =
@@ -130,7 +134,7 @@ span-of-requires c κs =
     let g = graphOf (s .args .rows .now) (s .args .left .now) (s .args .right .now) (s .args .divisors .now) in
     let f = c .before .before .before .before .before .before .before .before .before .before .find in
     let l = c .before .before .before .loop in
-    let few = few-all g (s .args .sets .now) (s .args .skips .now) (s .args .starts .now) (s .args .cells .now) (s .pre .1 .0) (s .pre .0) (s .args .s) (s .args .share) (s .pre .1 .1 .0) (f .d) (l .i) (l .number) _ _ _ _ _ (l .inv .2) (l .inv .0) (c .before .before .loop-test .taken) in (
+    let few = few-row (c .before .before) in (
       share-fits g (s .args .s) (s .args .share) (s .pre .1 .1 .0) (s .pre .0) (l .inv .2 .known),
       few .0,
       part-few _ (few .2),
@@ -191,27 +195,18 @@ add-number c =
     few-fit (rowed-few g (s .args .sets .now) (s .args .skips .now) (s .args .starts .now) (s .args .cells .now) (s .pre .1 .0) (s .pre .0) (s .args .s) (s .args .share) (s .pre .1 .1 .0) _ _ _ _ _ _ _ _ (m .inv .0) _ (m .inv .1) (c .if1 .left))
 
 add-i : tie.Need-add-i Inv-loop2 μ-loop2 Inv-loop μ-loop Inv-find μ-find
-add-i c =
-    let s = c .before .before .before .before .before .before .before .before .before .before .before .before .before .before .before .before .before .before .before .before .before .before .before in
-    let g = graphOf (s .args .rows .now) (s .args .left .now) (s .args .right .now) (s .args .divisors .now) in
-    let f = c .before .before .before .before .before .before .before .before .before .before .before .before .before .before .find in
-    let l = c .before .before .before .before .before .before .before .loop in
-    row-fits (c .before .before .before .before .before .before .loop-test .taken) (few-all g (s .args .sets .now) (s .args .skips .now) (s .args .starts .now) (s .args .cells .now) (s .pre .1 .0) (s .pre .0) (s .args .s) (s .args .share) (s .pre .1 .1 .0) (f .d) (l .i) (l .number) _ _ _ _ _ (l .inv .2) (l .inv .0) (c .before .before .before .before .before .before .loop-test .taken) .2)
+add-i c = row-fits (c .before .before .before .before .before .before .loop-test .taken) (few-row (c .before .before .before .before .before .before) .2)
 
 loop-less : tie.Need-loop-less Inv-loop2 μ-loop2 Inv-loop μ-loop Inv-find μ-find
 loop-less c = less-row (c .before .before .before .before .before .before .loop-test .taken)
 
 loop-again : tie.Need-loop-again Inv-loop2 μ-loop2 Inv-loop μ-loop Inv-find μ-find
 loop-again c =
-    let s = c .before .before .before .before .before .before .before .before .before .before .before .before .before .before .before .before .before .before .before .before .before .before .before in
-    let g = graphOf (s .args .rows .now) (s .args .left .now) (s .args .right .now) (s .args .divisors .now) in
+    let p = c .before .before .before .before .before .before .before .before .before .before .before .before .before .before .before .before .before .before .before .before .before .before .before .pre in
     let l = c .before .before .before .before .before .before .before .loop in
-    let m = c .before .before .loop2 in (
-      l .inv .0,
-      le-more _ (l .inv .1),
-      rowed-next g (s .args .sets .now) (s .args .skips .now) (s .args .starts .now) (s .args .cells .now) (s .pre .1 .0) (s .pre .0) (s .args .s) (s .args .share) (s .pre .1 .1 .0) _ _ _ _ _ _ _ _ (m .inv .0) _ (m .inv .1) (c .if1 .left),
-      clear-on g (s .args .s) (s .args .share) (s .args .ahead) (l .number) _ (l .inv .3) (rowed-clear g (s .args .sets .now) (s .args .skips .now) (s .args .starts .now) (s .args .cells .now) (s .pre .1 .0) (s .pre .0) (s .args .s) (s .args .share) (s .pre .1 .1 .0) _ _ _ _ _ _ _ _ (m .inv .0) _ (m .inv .1) (c .if1 .left)),
-    )
+    let m = c .before .before .loop2 in
+    let r = row-done (p .0) (p .1 .0) (p .1 .1 .0) (m .inv .0) (m .inv .1) (l .inv .1) (l .inv .3) (c .if1 .left) in
+    (l .inv .0, r .0, r .1, r .2)
 
 add-d : tie.Need-add-d Inv-loop2 μ-loop2 Inv-loop μ-loop Inv-find μ-find
 add-d c = next-size-fits (c .before .before .before .before .before .before .before .before .before .before .before .before .before .before .before .before .before .pre .0) (c .before .before .before .before .before .before .before .before .find .inv .1) (c .before .before .before .before .before .before .before .find-test .taken)
@@ -266,12 +261,9 @@ add-t50 c =
 
 returns-2 : tie.Need-returns-2 Inv-loop2 μ-loop2 Inv-loop μ-loop Inv-find μ-find
 returns-2 c =
-    let s = c .before .before .before .before .before .before .before .before .before .before .before .before .before in
-    let g = graphOf (s .args .rows .now) (s .args .left .now) (s .args .right .now) (s .args .divisors .now) in
-    let f = c .before .before .before .before .find in
+    let p = c .before .before .before .before .before .before .before .before .before .before .before .before .before .pre in
     ⊎-elim (λ w. absurd (not-past (c .before .before .if3 .left) (w .0 .left)))
-    (λ w. let e : c .before .first-of2 .result ≡ w .9 .result = c .before .first-of2 .ensures ∙ ap (firstOf (s .args .starts .now) (s .args .s) (f .d)) (w .17) ∙ sym (w .9 .ensures) in
-    rw (w .17, w .18, w .19, e) (rowed-found g (s .args .sets .now) (s .args .skips .now) (s .args .starts .now) (s .args .cells .now) (s .pre .1 .0) (s .pre .0) (s .args .s) (s .args .share) (s .pre .1 .1 .0) _ _ _ _ _ _ _ _ (w .11 .inv .0) (w .11 .j) (w .11 .inv .1) (s .args .ahead) (w .11 .inv .2) (w .11 .inv .3) (w .13 .taken) (w .15 .ensures) (w .16 .taken)))
+    (λ w. pair-found (p .0) (p .1 .0) (p .1 .1 .0) (w .11 .inv .0) (w .11 .inv .1) (w .11 .inv .2) (w .11 .inv .3) (w .13 .taken) (w .15 .ensures) (w .16 .taken) (w .9 .ensures) (w .17) (w .18) (w .19) (c .before .first-of2 .ensures))
     (c .before .before .before .find-test .came)
 
 pub find-spec : {M : Type 1} → statement M

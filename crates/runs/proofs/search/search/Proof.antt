@@ -17,8 +17,8 @@ use Rattle.turns.specs.QueueLaws.{stillMet}
 use Rattle.turns.specs.StepLaws.{ready-read}
 use Rattle.turns.specs.StartLaws.{Prepared}
 use Rattle.crew.specs.Logs.{logOf}
-use Rattle.runs.specs.Runs.{Between, Underway, Carried}
-use Rattle.runs.specs.HandLaws.{InHand, hand-start, hand-changed, hand-kept, put-down, hand-turn, hand-lowest}
+use Rattle.runs.specs.Runs.{Between, Within, Underway, Carried}
+use Rattle.runs.specs.HandLaws.{InHand, hand-start, hand-changed, hand-kept, Turned, hand-turned, hand-ready, down-less, down-underway, down-carried}
 use Rattle.runs.specs.SearchLaws.{in-table, in-memory, scans-fit, between-start, between-end, prepared, nobodies, within-open, within-closed, within-few, within-board, within-ready, whose-known, within-less, carried-start, carried-turn, underway-turn, two-of, size-of, below-eight, below-two, few-pairs, starts-room, size-fits, less-size, all-sizes, laid-length, logged-lengths}
 use Rattle.runs.proofs.search.search.Statement.{statement}
 use Rattle.runs.proofs.search.search.Tie as tie
@@ -104,19 +104,24 @@ lowest-requires c κs = c .before .before .before .before .before .before .befor
 array-copy-out-worker : tie.Need-array-copy-out-worker Inv-loop2 μ-loop2 Inv-loop μ-loop
 array-copy-out-worker c = some-workers
 
+-- the first turn of a size, stated once in the shortest paths
+opened : (c : tie.After-lowest Inv-loop2 μ-loop2 Inv-loop μ-loop)
+    → let l = c .before .before .before .before .before .loop in let a = c .before .before .before .before .before .before .before .before .before .before .before .before .before .before .before .before .before .before .before .before .before .before .before .before .before .before .before .before .before .before .before .before .before .before .before .before .before .args in let o = c .before .«open» .result in
+    Within (queryOf (a .rows .now) (a .scans .now) (a .left .now) (a .right .now) (a .divisors .now) (a .fixed .now) (a .outer .now) (a .inner .now) (a .result .now)) (a .scheme) (a .count) (a .turns .now) (columns (c .before .before .before .before .before .before .before .before .before .lay-scans .last .1 .0) (a .outers .now) (a .methods .now)) (logOf (a .log-workers .now) (a .log-driving .now) (a .log-inner .now) (a .log-costs .now)) (l .k + 1) (c .lowest .result) (set o 0 (workerAt o 0)) (l .at) (l .pairs) (columns (l .costs) (l .outers) (l .methods)) (logOf (l .log-workers) (l .log-driving) (l .log-inner) (l .log-costs))
+opened c =
+    let z = c .before .before .before .before .before .before .before .before .before .before .before .before .before .before .before .before .before .before .before .before .before .before .before .before .before .before .before .before .before .before .before .before .before .before .before .before .before .pre .0 in
+    let l = c .before .before .before .before .before .loop in
+    hand-start (c .before .«open» .result) (within-open (z .sound) (two-of (l .inv .0)) (size-of (c .before .before .before .before .loop-test .taken) (l .inv .2)) (z .some-worker) (z .few-workers) (l .inv .6) (c .before .«open» .ensures) (c .lowest .ensures))
+
 loop2-holds : tie.Need-loop2-holds Inv-loop2 μ-loop2 Inv-loop μ-loop
 loop2-holds c =
-    let open′ = c .before .before .«open» in
-    let z = c .before .before .before .before .before .before .before .before .before .before .before .before .before .before .before .before .before .before .before .before .before .before .before .before .before .before .before .before .before .before .before .before .before .before .before .before .before .before .pre .0 in
-    let l = c .before .before .before .before .before .before .loop in
-    let two = two-of (l .inv .0) in
-    let known = size-of (c .before .before .before .before .before .loop-test .taken) (l .inv .2) in (
+    let l = c .before .before .before .before .before .before .loop in (
       l .inv .3,
-      two,
-      known,
+      two-of (l .inv .0),
+      size-of (c .before .before .before .before .before .loop-test .taken) (l .inv .2),
       l .inv .4,
       l .inv .5,
-      record { old = _; lent = _; lent-fits = z .log-fits; within = hand-start (open′ .result) (within-open (z .sound) two known (z .some-worker) (z .few-workers) (l .inv .6) (open′ .ensures) (c .before .lowest .ensures)) },
+      record { old = _; lent = _; lent-fits = c .before .before .before .before .before .before .before .before .before .before .before .before .before .before .before .before .before .before .before .before .before .before .before .before .before .before .before .before .before .before .before .before .before .before .before .before .before .before .pre .0 .log-fits; within = opened (c .before) },
       carried-start _ _ _ _ _ _ _ _ _ _ _,
       some-workers,
     )
@@ -168,13 +173,10 @@ held-inside c =
 
 step-requires : tie.Need-step-requires Inv-loop2 μ-loop2 Inv-loop μ-loop
 step-requires c κs =
-    let loop2-test′ = c .before .before .before .before .before .before .before .loop2-test in
-    let whose-turn′ = c .before .before .before .before .before .before .whose-turn in
-    let z = c .before .before .before .before .before .before .before .before .before .before .before .before .before .before .before .before .before .before .before .before .before .before .before .before .before .before .before .before .before .before .before .before .before .before .before .before .before .before .before .before .before .before .before .before .before .before .before .pre .0 in
-    let m = c .before .before .before .before .before .before .before .before .loop2 in
-    let u = m .inv .5 in
-    let h = in-hand (c .before .before .before .before .before) in
-    (within-board (z .sound) (m .inv .1) (m .inv .2) (u .lent-fits) (z .turns-known) (u .within) (loop2-test′ .taken) (m .inv .0), ready-read (set (m .workers) (m .held) (m .worker)) (whose-turn′ .result) (c .before .before .before .before .before .if1 .worker) (h .worker) (within-ready (z .sound) (m .inv .1) (m .inv .2) (u .lent-fits) (z .turns-known) (u .within) (loop2-test′ .taken) (whose-turn′ .ensures)))
+    let j = c .before .before .before .before .before in
+    let z = j .before .before .before .before .before .before .before .before .before .before .before .before .before .before .before .before .before .before .before .before .before .before .before .before .before .before .before .before .before .before .before .before .before .before .before .before .before .before .before .before .before .before .pre .0 in
+    let m = j .before .before .before .loop2 in
+    hand-ready (z .sound) (m .inv .1) (m .inv .2) (z .turns-known) (m .inv .5) (m .inv .0) (j .before .before .loop2-test .taken) (j .before .whose-turn .ensures) (in-hand j)
 
 note-requires : tie.Need-note-requires Inv-loop2 μ-loop2 Inv-loop μ-loop
 note-requires c κs =
@@ -196,73 +198,50 @@ array-set-from-workers-2 c = held-inside (c .before .before .before .before .bef
 lowest-requires-2 : tie.Need-lowest-requires-2 Inv-loop2 μ-loop2 Inv-loop μ-loop
 lowest-requires-2 c κs = c .before .before .before .before .before .before .before .before .before .before .before .before .before .before .before .before .before .before .before .before .before .before .before .before .before .before .before .before .before .before .before .before .before .before .before .before .before .before .before .before .before .before .before .before .before .before .before .before .before .before .before .before .before .before .before .before .before .before .before .before .before .before .before .before .before .before .before .before .before .before .before .before .before .pre .0 .few-workers
 
+-- the turn, in the shortest paths: the needs below have it at every length
+turned : (c : tie.After-entries-on Inv-loop2 μ-loop2 Inv-loop μ-loop)
+    → let j = c .before .before .before .before .before .before .before .before .before .before .before .before .before .before .before .before .before .before .before .before .before .before .before .before .before .before .before .before in let m = j .before .before .before .loop2 in let l = j .before .before .before .before .before .before .before .before .before .before .loop in let a = j .before .before .before .before .before .before .before .before .before .before .before .before .before .before .before .before .before .before .before .before .before .before .before .before .before .before .before .before .before .before .before .before .before .before .before .before .before .before .before .before .before .before .args in let o = j .before .before .before .before .before .before .«open» .result in
+    Turned (queryOf (a .rows .now) (a .scans .now) (a .left .now) (a .right .now) (a .divisors .now) (a .fixed .now) (a .outer .now) (a .inner .now) (a .result .now)) (a .scheme) (a .count) (a .turns .now) (l .k + 1) (j .before .before .before .before .before .lowest .result) (set o 0 (workerAt o 0)) (l .at) (l .pairs) (columns (l .costs) (l .outers) (l .methods)) (logOf (l .log-workers) (l .log-driving) (l .log-inner) (l .log-costs)) (m .low) (m .at) (set (m .workers) (m .held) (m .worker)) (j .if1 .workers) (j .if1 .held) (c .before .before .before .before .before .before .before .before .before .before .before .before .before .before .before .before .before .before .before .before .before .before .step .result .worker) (c .entries-on .result) (c .before .before .before .before .before .before .before .before .before .note .result) (columns (c .before .before .before .before .before .before .before .before .before .before .before .before .before .before .before .before .before .before .before .before .before .before .step .last .1 .1 .1 .1 .1 .1 .1 .1 .1 .1 .0) (c .before .before .before .before .before .before .before .before .before .before .before .before .before .before .before .before .before .before .before .before .before .before .step .last .1 .1 .1 .1 .1 .1 .1 .1 .1 .1 .1 .0) (c .before .before .before .before .before .before .before .before .before .before .before .before .before .before .before .before .before .before .before .before .before .before .step .last .1 .1 .1 .1 .1 .1 .1 .1 .1 .1 .1 .1 .0)) (logOf (c .before .before .before .before .before .before .before .before .before .note .last .0) (c .before .before .before .before .before .before .before .before .before .note .last .1 .0) (c .before .before .before .before .before .before .before .before .before .note .last .1 .1 .0) (c .before .before .before .before .before .before .before .before .before .note .last .1 .1 .1 .0))
+turned c =
+    let j = c .before .before .before .before .before .before .before .before .before .before .before .before .before .before .before .before .before .before .before .before .before .before .before .before .before .before .before .before in
+    let z = j .before .before .before .before .before .before .before .before .before .before .before .before .before .before .before .before .before .before .before .before .before .before .before .before .before .before .before .before .before .before .before .before .before .before .before .before .before .before .before .before .before .before .pre .0 in
+    let m = j .before .before .before .loop2 in
+    hand-turned (z .sound) (m .inv .1) (m .inv .2) (z .few-workers) (z .turns-known) (m .inv .5) (m .inv .6) (j .before .before .loop2-test .taken) (j .before .whose-turn .ensures) (in-hand j) (c .before .before .before .before .before .before .before .before .before .before .before .before .before .before .before .before .before .before .before .before .before .before .step .ensures) (c .entries-on .ensures) (c .before .before .before .before .before .before .before .before .before .note .ensures)
+
 loop2-less : tie.Need-loop2-less Inv-loop2 μ-loop2 Inv-loop μ-loop
-loop2-less c =
-    let loop2-test′ = c .before .before .before .before .before .before .before .before .before .before .before .before .before .before .before .before .before .before .before .before .before .before .before .before .before .before .before .before .before .before .before .before .before .before .loop2-test in
-    let whose-turn′ = c .before .before .before .before .before .before .before .before .before .before .before .before .before .before .before .before .before .before .before .before .before .before .before .before .before .before .before .before .before .before .before .before .before .whose-turn in
-    let step′ = c .before .before .before .before .before .before .before .before .before .before .before .before .before .before .before .before .before .before .before .before .before .before .before .before .before .before .step in
-    let z = c .before .before .before .before .before .before .before .before .before .before .before .before .before .before .before .before .before .before .before .before .before .before .before .before .before .before .before .before .before .before .before .before .before .before .before .before .before .before .before .before .before .before .before .before .before .before .before .before .before .before .before .before .before .before .before .before .before .before .before .before .before .before .before .before .before .before .before .before .before .before .before .before .before .before .pre .0 in
-    let m = c .before .before .before .before .before .before .before .before .before .before .before .before .before .before .before .before .before .before .before .before .before .before .before .before .before .before .before .before .before .before .before .before .before .before .before .loop2 in
-    let u = m .inv .5 in
-    let k = below-eight (whose-known (z .sound) (m .inv .1) (m .inv .2) (u .lent-fits) (z .turns-known) (u .within) (loop2-test′ .taken) (whose-turn′ .ensures)) (z .few-workers) in
-    let t = hand-turn (in-table (set (m .workers) (m .held) (m .worker)) k (u .within .running .tally .table)) (in-hand (c .before .before .before .before .before .before .before .before .before .before .before .before .before .before .before .before .before .before .before .before .before .before .before .before .before .before .before .before .before .before .before .before)) (step′ .ensures) in
-    rw (put-down (c .before .before .before .before .before .before .before .before .before .before .before .before .before .before .before .before .before .before .before .before .before .before .before .before .before .before .before .before .before .before .before .before .if1 .workers) (c .before .before .before .before .before .before .before .before .before .before .before .before .before .before .before .before .before .before .before .before .before .before .before .before .before .before .before .before .before .before .before .before .if1 .held) (step′ .result .worker), c .before .before .before .before .entries-on .ensures) (within-less (z .sound) (m .inv .1) (m .inv .2) (u .lent-fits) (z .turns-known) (u .within) (loop2-test′ .taken) (whose-turn′ .ensures) t)
+loop2-less c = down-less (turned (c .before .before .before .before))
 
 loop2-again : tie.Need-loop2-again Inv-loop2 μ-loop2 Inv-loop μ-loop
 loop2-again c =
-    let loop2-test′ = c .before .before .before .before .before .before .before .before .before .before .before .before .before .before .before .before .before .before .before .before .before .before .before .before .before .before .before .before .before .before .before .before .before .before .loop2-test in
-    let whose-turn′ = c .before .before .before .before .before .before .before .before .before .before .before .before .before .before .before .before .before .before .before .before .before .before .before .before .before .before .before .before .before .before .before .before .before .whose-turn in
-    let step′ = c .before .before .before .before .before .before .before .before .before .before .before .before .before .before .before .before .before .before .before .before .before .before .before .before .before .before .step in
-    let entries-on′ = c .before .before .before .before .entries-on in
-    let z = c .before .before .before .before .before .before .before .before .before .before .before .before .before .before .before .before .before .before .before .before .before .before .before .before .before .before .before .before .before .before .before .before .before .before .before .before .before .before .before .before .before .before .before .before .before .before .before .before .before .before .before .before .before .before .before .before .before .before .before .before .before .before .before .before .before .before .before .before .before .before .before .before .before .before .pre .0 in
     let m = c .before .before .before .before .before .before .before .before .before .before .before .before .before .before .before .before .before .before .before .before .before .before .before .before .before .before .before .before .before .before .before .before .before .before .before .loop2 in
-    let u = m .inv .5 in
-    let k = below-eight (whose-known (z .sound) (m .inv .1) (m .inv .2) (u .lent-fits) (z .turns-known) (u .within) (loop2-test′ .taken) (whose-turn′ .ensures)) (z .few-workers) in
-    let t = hand-turn (in-table (set (m .workers) (m .held) (m .worker)) k (u .within .running .tally .table)) (in-hand (c .before .before .before .before .before .before .before .before .before .before .before .before .before .before .before .before .before .before .before .before .before .before .before .before .before .before .before .before .before .before .before .before)) (step′ .ensures) in
-    let n = c .before .before .before .before .before .before .before .before .before .before .before .before .before .note .ensures in
+    let t = turned (c .before .before .before .before) in
     let l = c .lowest2 .ensures in (
       m .inv .0,
       m .inv .1,
       m .inv .2,
       m .inv .3,
       m .inv .4,
-      rw (put-down (c .before .before .before .before .before .before .before .before .before .before .before .before .before .before .before .before .before .before .before .before .before .before .before .before .before .before .before .before .before .before .before .before .if1 .workers) (c .before .before .before .before .before .before .before .before .before .before .before .before .before .before .before .before .before .before .before .before .before .before .before .before .before .before .before .before .before .before .before .before .if1 .held) (step′ .result .worker)) (underway-turn (z .sound) (m .inv .1) (m .inv .2) (z .turns-known) (m .inv .5) (loop2-test′ .taken) (whose-turn′ .ensures) t l (n .1) (entries-on′ .ensures) (n .0)),
-      rw (put-down (c .before .before .before .before .before .before .before .before .before .before .before .before .before .before .before .before .before .before .before .before .before .before .before .before .before .before .before .before .before .before .before .before .if1 .workers) (c .before .before .before .before .before .before .before .before .before .before .before .before .before .before .before .before .before .before .before .before .before .before .before .before .before .before .before .before .before .before .before .before .if1 .held) (step′ .result .worker)) (carried-turn (z .sound) (m .inv .1) (m .inv .2) (z .turns-known) (m .inv .6) (loop2-test′ .taken) (whose-turn′ .ensures) t l (n .1) (entries-on′ .ensures) (n .0)),
-      held-inside (c .before .before .before .before .before .before .before .before .before .before .before .before .before .before .before .before .before .before .before .before .before .before .before .before .before .before .before .before .before .before .before .before),
+      down-underway t l,
+      down-carried t l,
+      t .inside,
     )
 
 loop2-less-2 : tie.Need-loop2-less-2 Inv-loop2 μ-loop2 Inv-loop μ-loop
-loop2-less-2 c =
-    let loop2-test′ = c .before .before .before .before .before .before .before .before .before .before .before .before .before .before .before .before .before .before .before .before .before .before .before .before .before .before .before .before .before .before .before .before .loop2-test in
-    let whose-turn′ = c .before .before .before .before .before .before .before .before .before .before .before .before .before .before .before .before .before .before .before .before .before .before .before .before .before .before .before .before .before .before .before .whose-turn in
-    let z = c .before .before .before .before .before .before .before .before .before .before .before .before .before .before .before .before .before .before .before .before .before .before .before .before .before .before .before .before .before .before .before .before .before .before .before .before .before .before .before .before .before .before .before .before .before .before .before .before .before .before .before .before .before .before .before .before .before .before .before .before .before .before .before .before .before .before .before .before .before .before .before .before .pre .0 in
-    let m = c .before .before .before .before .before .before .before .before .before .before .before .before .before .before .before .before .before .before .before .before .before .before .before .before .before .before .before .before .before .before .before .before .before .loop2 in
-    let u = m .inv .5 in
-    let k = below-eight (whose-known (z .sound) (m .inv .1) (m .inv .2) (u .lent-fits) (z .turns-known) (u .within) (loop2-test′ .taken) (whose-turn′ .ensures)) (z .few-workers) in
-    let t = hand-turn (in-table (set (m .workers) (m .held) (m .worker)) k (u .within .running .tally .table)) (in-hand (c .before .before .before .before .before .before .before .before .before .before .before .before .before .before .before .before .before .before .before .before .before .before .before .before .before .before .before .before .before .before)) (c .before .before .before .before .before .before .before .before .before .before .before .before .before .before .before .before .before .before .before .before .before .before .before .before .step .ensures) in
-    rw (c .before .before .entries-on .ensures) (within-less (z .sound) (m .inv .1) (m .inv .2) (u .lent-fits) (z .turns-known) (u .within) (loop2-test′ .taken) (whose-turn′ .ensures) t)
+loop2-less-2 c = turned (c .before .before) .less
 
 loop2-again-2 : tie.Need-loop2-again-2 Inv-loop2 μ-loop2 Inv-loop μ-loop
 loop2-again-2 c =
-    let loop2-test′ = c .before .before .before .before .before .before .before .before .before .before .before .before .before .before .before .before .before .before .before .before .before .before .before .before .before .before .before .before .before .before .before .before .loop2-test in
-    let whose-turn′ = c .before .before .before .before .before .before .before .before .before .before .before .before .before .before .before .before .before .before .before .before .before .before .before .before .before .before .before .before .before .before .before .whose-turn in
-    let step′ = c .before .before .before .before .before .before .before .before .before .before .before .before .before .before .before .before .before .before .before .before .before .before .before .before .step in
-    let entries-on′ = c .before .before .entries-on in
-    let z = c .before .before .before .before .before .before .before .before .before .before .before .before .before .before .before .before .before .before .before .before .before .before .before .before .before .before .before .before .before .before .before .before .before .before .before .before .before .before .before .before .before .before .before .before .before .before .before .before .before .before .before .before .before .before .before .before .before .before .before .before .before .before .before .before .before .before .before .before .before .before .before .before .pre .0 in
     let m = c .before .before .before .before .before .before .before .before .before .before .before .before .before .before .before .before .before .before .before .before .before .before .before .before .before .before .before .before .before .before .before .before .before .loop2 in
-    let u = m .inv .5 in
-    let k = below-eight (whose-known (z .sound) (m .inv .1) (m .inv .2) (u .lent-fits) (z .turns-known) (u .within) (loop2-test′ .taken) (whose-turn′ .ensures)) (z .few-workers) in
-    let t = hand-turn (in-table (set (m .workers) (m .held) (m .worker)) k (u .within .running .tally .table)) (in-hand (c .before .before .before .before .before .before .before .before .before .before .before .before .before .before .before .before .before .before .before .before .before .before .before .before .before .before .before .before .before .before)) (step′ .ensures) in
-    let n = c .before .before .before .before .before .before .before .before .before .before .before .note .ensures in
-    let l = hand-lowest (in-table (set (m .workers) (m .held) (m .worker)) k (u .within .running .tally .table)) (in-hand (c .before .before .before .before .before .before .before .before .before .before .before .before .before .before .before .before .before .before .before .before .before .before .before .before .before .before .before .before .before .before)) (step′ .ensures) (u .within .lowest) (not-false _ (c .if2 .left)) in (
+    let t = turned (c .before .before) in
+    let l = t .lowest (not-false _ (c .if2 .left)) in (
       m .inv .0,
       m .inv .1,
       m .inv .2,
       m .inv .3,
       m .inv .4,
-      (underway-turn (z .sound) (m .inv .1) (m .inv .2) (z .turns-known) (m .inv .5) (loop2-test′ .taken) (whose-turn′ .ensures) t l (n .1) (entries-on′ .ensures) (n .0)),
-      (carried-turn (z .sound) (m .inv .1) (m .inv .2) (z .turns-known) (m .inv .6) (loop2-test′ .taken) (whose-turn′ .ensures) t l (n .1) (entries-on′ .ensures) (n .0)),
-      held-inside (c .before .before .before .before .before .before .before .before .before .before .before .before .before .before .before .before .before .before .before .before .before .before .before .before .before .before .before .before .before .before),
+      t .underway l,
+      t .carried l,
+      t .inside,
     )
 
 mul-workers-3 : tie.Need-mul-workers-3 Inv-loop2 μ-loop2 Inv-loop μ-loop
@@ -279,11 +258,10 @@ loop-less c = less-size (c .before .before .before .before .before .before .befo
 
 loop-again : tie.Need-loop-again Inv-loop2 μ-loop2 Inv-loop μ-loop
 loop-again c =
-    let open′ = c .before .before .before .before .«open» in
     let z = c .before .before .before .before .before .before .before .before .before .before .before .before .before .before .before .before .before .before .before .before .before .before .before .before .before .before .before .before .before .before .before .before .before .before .before .before .before .before .before .before .pre .0 in
     let l = c .before .before .before .before .before .before .before .before .loop in
     let m = c .before .loop2 in
-    let w = m .inv .6 .carry _ _ (z .log-fits) (hand-start (open′ .result) (within-open (z .sound) (m .inv .1) (m .inv .2) (z .some-worker) (z .few-workers) (l .inv .6) (open′ .ensures) (c .before .before .before .lowest .ensures))) in (
+    let w = m .inv .6 .carry _ _ (z .log-fits) (opened (c .before .before .before)) in (
       below-two (m .inv .1),
       m .inv .2,
       l .inv .2,
