@@ -1,56 +1,41 @@
-// Generated queries, planned under several crews, and held cell by cell to the enumeration of `trees` and `played`, which shares no
-// code with the planner. Prints counts only.
+// Generated queries, planned under several crews, and held cell by cell to an enumeration of all trees that shares no code with the
+// planner; and queries planned under many crews, which must all leave the same. Prints counts only.
+mod crews;
+mod enumerate;
+mod flags;
+mod generate;
 mod hold;
+mod kinds;
+mod memory;
+mod plan_in;
+mod play;
 
-use drawn::memory::TALLY;
-use drawn::memory::get;
+use memory::Memory;
+use memory::TALLY;
+use memory::get;
+use memory::sum;
 
 const STDOUT: i32 = 1;
 
-fn print_line(name: &[u8], number: u64) {
-    io::write_all(STDOUT, name);
-    io::write_all(STDOUT, b" ");
-    io::print_decimal(STDOUT, number);
-    io::write_all(STDOUT, b"\n");
-}
-
-fn report_plans(m: &[u64]) {
-    print_line(b"queries", get(m, TALLY, 0));
-    print_line(b"plans", get(m, TALLY, 1));
-    print_line(b"refused", get(m, TALLY, 2));
-    print_line(b"answers", get(m, TALLY, 3));
-}
-
-fn report_memo(m: &[u64]) {
-    print_line(b"sets", get(m, TALLY, 4));
-    print_line(b"estimates", get(m, TALLY, 5));
-    print_line(b"costs", get(m, TALLY, 6));
-    print_line(b"outers", get(m, TALLY, 7));
-    print_line(b"methods", get(m, TALLY, 8));
-    print_line(b"skip cells", get(m, TALLY, 9));
-}
-
-fn report_log(m: &[u64]) {
-    print_line(b"log workers", get(m, TALLY, 10));
-    print_line(b"log driving sets", get(m, TALLY, 11));
-    print_line(b"log inner sets", get(m, TALLY, 12));
-    print_line(b"log costs", get(m, TALLY, 13));
-}
-
-fn report_all(m: &[u64]) {
-    print_line(b"comparisons", get(m, TALLY, 14));
-    print_line(b"differences", get(m, TALLY, 15));
-}
-
-fn report(m: &[u64]) {
-    report_plans(m);
-    report_memo(m);
-    report_log(m);
-    report_all(m);
+// The names byte by byte; before each line's end a count.
+fn report(m: &Memory, names: &[u8]) {
+    let mut i = 0u64;
+    for at in 0..names.len() {
+        let next = at + 1;
+        if names[at] == 10 {
+            io::print_decimal(STDOUT, get(m, TALLY, i));
+            i = sum(i, 1);
+        }
+        io::write_all(STDOUT, &names[at..next]);
+    }
 }
 
 fn main() {
-    let mut m = [0u64; 65536];
+    let mut m = [0u64; memory::SIZE];
     hold::all_queries(&mut m);
-    report(&m);
+    crews::all_queries(&mut m);
+    report(
+        &m,
+        b"queries \nplans \nrefused \nanswers \nsets \nestimates \ncosts \nouters \nmethods \nskip cells \nlog workers \nlog driving sets \nlog inner sets \nlog costs \ncomparisons \ndifferences \nqueries of twelve crews \ntheir plans \ntheir comparisons \ntheir differences \ntheir log entries \nfaults in these \n",
+    );
 }

@@ -1,18 +1,16 @@
-use mathlib.Core.Path.{_≡_}
-use lib.ListN.{length}
-use Prim.Native.Nat.{_-_}
+use Prim.Native.Nat.{_-_, _≤_}
 use borrow.Author.Needs.{needs}
 use Rattle.trial.proofs.hold.all_queries.Statement.{statement}
 use Rattle.trial.proofs.hold.all_queries.Tie as tie
 
 abbrev Inv-loop : tie.InvT-loop
-Inv-loop m₀ number₀ m number = length m ≡ length m₀
+Inv-loop m₀ number₀ m number = 0 ≤ number
 
 abbrev μ-loop : tie.MeasureT-loop
 μ-loop m₀ number₀ m number = 20480 - number
 
-set-number-requires : tie.Need-set-number-requires Inv-loop μ-loop
-set-number-requires c κs = search needs
+element-write-m : tie.Need-element-write-m Inv-loop μ-loop
+element-write-m c = search needs
 
 loop-holds : tie.Need-loop-holds Inv-loop μ-loop
 loop-holds c = search needs
@@ -29,9 +27,6 @@ loop-less c = search needs
 loop-again : tie.Need-loop-again Inv-loop μ-loop
 loop-again c = search needs
 
-same-length : tie.Need-same-length Inv-loop μ-loop
-same-length c = search needs
-
 returns : tie.Need-returns Inv-loop μ-loop
 returns c = search needs
 
@@ -41,11 +36,10 @@ all-queries-spec =
     (tie.spec
     Inv-loop
     μ-loop
-    set-number-requires
+    element-write-m
     loop-holds
     one-query-requires
     add-number
     loop-less
     loop-again
-    same-length
     returns)

@@ -1,0 +1,45 @@
+use Prim.Native.Nat.{_-_, _≤_}
+use borrow.Author.Needs.{needs}
+use Rattle.trial.proofs.crews.save.Statement.{statement}
+use Rattle.trial.proofs.crews.save.Tie as tie
+
+abbrev Inv-loop : tie.InvT-loop
+Inv-loop m₀ i₀ m i = 0 ≤ i
+
+abbrev μ-loop : tie.MeasureT-loop
+μ-loop m₀ i₀ m i = 14336 - i
+
+loop-holds : tie.Need-loop-holds Inv-loop μ-loop
+loop-holds c = search needs
+
+get-requires : tie.Need-get-requires Inv-loop μ-loop
+get-requires c κs = search needs
+
+put-requires : tie.Need-put-requires Inv-loop μ-loop
+put-requires c κs = search needs
+
+add-i : tie.Need-add-i Inv-loop μ-loop
+add-i c = search needs
+
+loop-less : tie.Need-loop-less Inv-loop μ-loop
+loop-less c = search needs
+
+loop-again : tie.Need-loop-again Inv-loop μ-loop
+loop-again c = search needs
+
+returns : tie.Need-returns Inv-loop μ-loop
+returns c = search needs
+
+pub save-spec : {M : Type 1} → statement M
+save-spec =
+    tie.close
+    (tie.spec
+    Inv-loop
+    μ-loop
+    loop-holds
+    get-requires
+    put-requires
+    add-i
+    loop-less
+    loop-again
+    returns)
