@@ -14,13 +14,12 @@ use Rattle.query.specs.Lists.{queryOf}
 use Rattle.starts.specs.Starts.{starts, cellStarts}
 use Rattle.turns.specs.Standing.{columns}
 use Rattle.turns.specs.QueueLaws.{stillMet}
-use Rattle.turns.specs.StepLaws.{ready-read}
 use Rattle.turns.specs.StartLaws.{Prepared}
 use Rattle.crew.specs.Workers.{workerAt}
 use Rattle.crew.specs.Logs.{logOf}
 use Rattle.runs.specs.Runs.{Between, Within, Underway, Carried}
 use Rattle.runs.specs.HandLaws.{InHand, hand-start, hand-changed, hand-kept, Turned, hand-turned, hand-ready, down-less, down-underway, down-carried}
-use Rattle.runs.specs.SearchLaws.{in-table, in-memory, scans-fit, between-start, between-end, prepared, nobodies, within-open, within-closed, within-few, within-board, within-ready, whose-known, within-less, carried-start, carried-turn, underway-turn, two-of, size-of, below-eight, below-two, few-pairs, starts-room, size-fits, less-size, all-sizes, laid-length, logged-lengths}
+use Rattle.runs.specs.SearchLaws.{in-memory, scans-fit, between-start, between-end, prepared, nobodies, within-open, within-closed, within-few, whose-known, carried-start, two-of, size-of, below-eight, below-two, few-pairs, starts-room, size-fits, less-size, all-sizes, laid-length, logged-lengths}
 use Rattle.runs.proofs.search.search.Statement.{statement}
 use Rattle.runs.proofs.search.search.Tie as tie
 
