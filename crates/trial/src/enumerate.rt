@@ -169,7 +169,9 @@ pub fn priced(m: &Memory, x: u64, y: u64, parts: u64) -> Join {
 
 // Whether two parts of a group make a step of a tree.
 fn fits_tree(m: &Memory, a: &Group, b: &Group) -> bool {
-    get(m, ESTIMATE_OF, number_of(a)) != 0 && get(m, ESTIMATE_OF, number_of(b)) != 0 && joinable(m, a, b)
+    get(m, ESTIMATE_OF, number_of(a)) != 0
+        && get(m, ESTIMATE_OF, number_of(b)) != 0
+        && joinable(m, a, b)
 }
 
 // What a group costs with no join.

@@ -107,7 +107,10 @@ fn lend_room(m: &mut Memory) {
 }
 
 fn lent_for(needed: u64, short: bool, more: u64, most: u64) -> u64 {
-    least(either(short, wrapping_sub_u64(needed, 1), sum(needed, more)), most)
+    least(
+        either(short, wrapping_sub_u64(needed, 1), sum(needed, more)),
+        most,
+    )
 }
 
 // A log of any length.

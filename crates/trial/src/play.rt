@@ -196,7 +196,10 @@ fn inner_set(m: &Memory, e: u64) -> u64 {
 
 // The cost in its result's row after its turn: the least over the pairs of that set so far.
 fn standing(m: &Memory, e: u64, x: u64, y: u64) -> u64 {
-    let parts = sum(get(m, COSTS, get(m, DRIVING, e)), get(m, COSTS, get(m, PARTNER, e)));
+    let parts = sum(
+        get(m, COSTS, get(m, DRIVING, e)),
+        get(m, COSTS, get(m, PARTNER, e)),
+    );
     let join = priced(m, x, y, parts);
     least(get(m, STANDING, sum(x, y)), join.cost)
 }
