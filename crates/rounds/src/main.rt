@@ -17,8 +17,6 @@ use shares::Share;
 use opening::open;
 use turns::scans::lay_scans;
 use turns::turn::turn;
-ghost use mathlib.Core.Path.{_≡_};
-ghost use mathlib.Core.Bool.{true};
 ghost use Prim.Native.Nat.{ℕ, _+_, _≤_, _<_};
 ghost use lib.ListN.{length};
 ghost use Rattle.rules.specs.Limits.{maxWorkers};

@@ -1,4 +1,4 @@
-use Prim.Native.Nat.{_-_, _≤_}
+use Prim.Native.Nat.{_≤_}
 use borrow.Author.Needs.{needs}
 use Rattle.trial.proofs.flags.group_from_top.Statement.{statement}
 use Rattle.trial.proofs.flags.group_from_top.Tie as tie
