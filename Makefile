@@ -9,7 +9,7 @@
 # make counts       instructions of one plan, the library's and C's (needs valgrind)
 # make plot         docs/performance.svg from TABLE, a file of what `make bench` printed (needs gnuplot)
 # make bench        the library beside native planners in C (bench/README.md); ROW="clique 12" for those rows alone
-.PHONY: run test lib harness engine c-tests examples compare soak faults fuzz bench counts plot
+.PHONY: run test lib harness engine c-tests examples compare compare-1 compare-2 soak faults fuzz bench counts plot
 
 CFLAGS = -std=c11 -O2 -Wall -Wextra -Werror -Iinclude
 LIBRARY = target/staticlib/libbutirampol.a
@@ -23,7 +23,8 @@ TEXTS = 2000000
 CALLS = 200000
 SEED = 2
 SECONDS = 600
-SHORT = target/compare -t 200000 -c 20000
+# the gate's comparison, in two halves that run at once
+HALF = target/compare -t 100000 -c 10000
 
 run:
 	@rt check plan </dev/null >&2
@@ -64,8 +65,10 @@ c-tests: examples compare
 examples: target/engine target/buffers target/stack
 	@tests/examples
 
-compare: target/compare
-	@$(SHORT)
+compare: compare-1 compare-2
+
+compare-1 compare-2: target/compare
+	@$(HALF) -s $(subst compare-,,$@)
 
 soak: target/compare
 	@nice target/compare -t $(TEXTS) -c $(CALLS) -s $(SEED)
