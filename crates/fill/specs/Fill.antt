@@ -9,7 +9,7 @@ use Rattle.rules.specs.Query.{Graph}
 use Rattle.rules.specs.Estimate.{estimate}
 use Rattle.rules.specs.Rows.{memo}
 use Rattle.graph.specs.Node.{Node}
-use Rattle.graph.specs.Parts.{Valued}
+use Rattle.parts.specs.Parts.{Valued}
 use Rattle.rows.specs.Tally.{found, Tallied}
 
 -- xs stand in M from place a on

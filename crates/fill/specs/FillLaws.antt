@@ -23,8 +23,8 @@ use Rattle.rules.specs.laws.Bools.{true-or-false}
 use Rattle.rules.specs.laws.Decide.{connected?}
 use Rattle.graph.specs.Near.{Near}
 use Rattle.graph.specs.NodeLaws.{node-with, node-without}
-use Rattle.graph.specs.Parts.{cellOf, Parts, byParts}
-use Rattle.graph.specs.PartLaws.{valued-with, valued-without, with-estimate, valued-root}
+use Rattle.parts.specs.Parts.{cellOf, Parts, byParts}
+use Rattle.parts.specs.PartLaws.{valued-with, valued-without, with-estimate, valued-root}
 use Rattle.rows.specs.Sizes.{upTo}
 use Rattle.rows.specs.Tally.{found, here, Tallied}
 use Rattle.fill.specs.Fill.{Ahead, Kept, Placed, Laid, Filled, Filling}

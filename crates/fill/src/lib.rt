@@ -14,8 +14,8 @@ ghost use Rattle.fill.specs.Fill.{Filling, Filled};
 use graph::near::grows;
 use graph::near::neighbours;
 use graph::near::stuck;
-use graph::parts::table_parts;
-use graph::parts::with_part;
+use parts::table_parts;
+use parts::with_part;
 use rows::tally::SIZES;
 use sets::single;
 

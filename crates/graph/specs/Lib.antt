@@ -1,4 +1,4 @@
--- Neighbour sets, a node of the walk and its questions, tables' parts; and the laws that the proofs cite.
+-- Neighbour sets, a node of the walk and its questions; and the laws that the proofs cite.
 pub mod Walk
 pub mod ApartLaws
 pub mod Near
@@ -6,5 +6,3 @@ pub mod NearLaws
 pub mod NextLaws
 pub mod Node
 pub mod NodeLaws
-pub mod Parts
-pub mod PartLaws

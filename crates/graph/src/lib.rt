@@ -1,3 +1,2 @@
-// The graph as tables of its own: the neighbours of each table and what they say of chosen tables; what each table brings to an estimate.
+// The graph as neighbour sets, and what they say of chosen tables.
 pub mod near;
-pub mod parts;

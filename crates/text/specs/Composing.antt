@@ -11,7 +11,7 @@ use Rattle.rules.specs.Answers.{Planned}
 use Rattle.rules.specs.Text.{blanks, Lined}
 use Rattle.planner.specs.declared.Answer.{Answer}
 use Rattle.planner.specs.Plans.{memoryOf, outcomeOf}
-use Rattle.writer.specs.Put.{Put}
+use Rattle.digits.specs.Put.{Put}
 
 -- planning has answered an input of n tables, in rows that were blank
 pub record Answered (i : Input) (n : ℕ) (a : Answer) (sets estimates costs outers methods : List ℕ) : Type 0 where

@@ -27,8 +27,8 @@ use Rattle.rules.specs.laws.Bellman.{least-unique}
 use Rattle.rules.specs.laws.Picked.{picked-valid, picked-least}
 use Rattle.rules.specs.laws.Writing.{lineRoom, plan-room, refusal-room, joins-room}
 use Rattle.rules.specs.laws.Text.{given-tree}
-use Rattle.writer.specs.Put.{Put}
-use Rattle.writer.specs.PutLaws.{put-then}
+use Rattle.digits.specs.Put.{Put}
+use Rattle.digits.specs.PutLaws.{put-then}
 use Rattle.writer.specs.Plans.{Kept, ToPut}
 use Rattle.planner.specs.declared.Answer.{Answer}
 use Rattle.planner.specs.Plans.{memoryOf, outcomeOf}

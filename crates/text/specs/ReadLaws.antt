@@ -18,7 +18,7 @@ use Rattle.query.specs.Lists.{queryOf}
 use Rattle.memo.specs.LayoutLaws.{front}
 use Rattle.fields.specs.declared.kinds.Progress.{Progress}
 use Rattle.reader.specs.Records.{readOf}
-use Rattle.writer.specs.Put.{Put}
+use Rattle.digits.specs.Put.{Put}
 use Rattle.text.specs.Composing.{Composed}
 
 -- a column of n cells, as it was read into, holds what was read

@@ -1,8 +1,4 @@
-pub mod Put
-pub mod SetText
+-- What stands in the memo rows that are written, and the laws that the proofs cite.
 pub mod Plans
-pub mod PutLaws
-pub mod DigitLaws
-pub mod SetLaws
 pub mod LineLaws
 pub mod PlanLaws

@@ -20,9 +20,9 @@ use Rattle.rules.specs.Writing.{joinLine, joinLines}
 use Rattle.rules.specs.laws.Sets.{size-pow, size-sum, size-pos, holds-single-only}
 use Rattle.rules.specs.laws.Bellman.{tablesOf-pos, least-unique, pick-unique}
 use Rattle.rules.specs.laws.Picked.{picked-parts, picked-in, picked-below, picked-least}
-use Rattle.writer.specs.Put.{Put}
+use Rattle.digits.specs.Put.{Put}
 use Rattle.writer.specs.Plans.{Rooted, Kept, ToPut}
-use Rattle.writer.specs.PutLaws.{put-none, put-then, put-as, Room, room-of, room-first, room-then}
+use Rattle.digits.specs.PutLaws.{put-none, put-then, put-as, Room, room-of, room-first, room-then}
 
 -- ---- looking for a row
 -- the row of S is the place, or behind it

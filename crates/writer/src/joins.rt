@@ -5,7 +5,7 @@ ghost use lib.ListN.{length, getD};
 ghost use Rattle.rules.specs.Query.{Query};
 ghost use Rattle.rules.specs.Trees.{Tree, tablesOf, stepOf, Picked};
 ghost use Rattle.rules.specs.Writing.{joinLines};
-ghost use Rattle.writer.specs.Put.{Put};
+ghost use Rattle.digits.specs.Put.{Put};
 ghost use Rattle.writer.specs.Plans.{Rooted, Kept, ToPut};
 use super::lines::put_join;
 use rules::JoinStep;

@@ -1,4 +1,3 @@
-// The text's writer: numbers, sets and lines of an answer, put into lent bytes from a place on.
+// The lines of an answer.
 pub mod joins;
 pub mod lines;
-pub mod numbers;

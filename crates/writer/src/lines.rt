@@ -3,10 +3,10 @@ ghost use mathlib.Core.List.{_∷_, []};
 ghost use Prim.Native.Nat.{_≤_, _+_};
 ghost use lib.ListN.{length};
 ghost use Rattle.rules.specs.Writing.{blank, digitsOf, setText, answerLine, planLine, joinLine, refusalLine};
-ghost use Rattle.writer.specs.Put.{Put};
-use super::numbers::put_byte;
-use super::numbers::put_number;
-use super::numbers::put_set;
+ghost use Rattle.digits.specs.Put.{Put};
+use digits::put_byte;
+use digits::put_number;
+use digits::put_set;
 use rules::JoinStep;
 use rules::Verdict;
 

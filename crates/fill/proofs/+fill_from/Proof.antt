@@ -3,7 +3,7 @@ use Prim.Native.Nat.{ℕ, _+_, _-_, _<_}
 use native.Mathlib.Omega.{arith}
 use lib.ListN.{length-set}
 use Rattle.graph.specs.ApartLaws.{all-fits, rest-is, rest-some, rest-apart, rest-fits, with-fits}
-use Rattle.graph.specs.PartLaws.{linked-divides, value-fits}
+use Rattle.parts.specs.PartLaws.{linked-divides, value-fits}
 use Rattle.rows.specs.FoundLaws.{found-none, found-last}
 use Rattle.fill.specs.FillLaws.{filled-none, fits-row, filling-with, filling-without, filled-step}
 use borrow.Fn.Kinds.{In}
@@ -14,7 +14,7 @@ use Rattle.fill.proofs.+fill_from.Lts-fill_from as fill-from-lts
 use Rattle.sets.proofs.single.Reads as single-reads
 use Rattle.graph.proofs.near.stuck.Reads as stuck-reads
 use Rattle.graph.proofs.near.grows.Reads as grows-reads
-use Rattle.graph.proofs.parts.with_part.Reads as with-part-reads
+use Rattle.parts.proofs.with_part.Reads as with-part-reads
 use Rattle.fill.proofs.put.Reads as put-reads
 use Rattle.fill.proofs.+fill_from.{statement}
 use Rattle.fill.proofs.+fill_from.Tie.{close}

@@ -1,7 +1,7 @@
 use Prim.Native.Nat.{_^_, _<_}
 use native.Mathlib.Omega.{arith}
 use Rattle.planner.specs.declared.Answer.{Answer}
-use Rattle.writer.specs.PutLaws.{put-length}
+use Rattle.digits.specs.PutLaws.{put-length}
 use Rattle.text.specs.PlanLaws.{answered-refused, answered-few, answered-kept, answered-put, answered-planned, plan-fits, refusal-fits, all-tables, some-tables}
 use Rattle.text.proofs.put_answer.Statement.{statement}
 use Rattle.text.proofs.put_answer.Tie as tie

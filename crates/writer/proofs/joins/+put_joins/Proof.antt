@@ -1,6 +1,6 @@
 use native.Mathlib.Omega.{arith}
 use borrow.Author.Needs.{needs}
-use Rattle.writer.specs.PutLaws.{put-length}
+use Rattle.digits.specs.PutLaws.{put-length}
 use Rattle.writer.specs.PlanLaws.{row-stands, in-estimates, in-costs, in-outers, in-methods, few-tables, step-fits, scan-put, outer-less, inner-less, outer-fits, inner-fits, own-fits, join-put}
 use Prim.Native.Nat.{ℕ, _<_}
 use borrow.Fn.Kinds.{In}

@@ -1,4 +1,4 @@
-use Rattle.writer.specs.PutLaws.{put-then}
+use Rattle.digits.specs.PutLaws.{put-then}
 use borrow.Author.Needs.{needs}
 use Rattle.writer.proofs.lines.put_field.Statement.{statement}
 use Rattle.writer.proofs.lines.put_field.Tie as tie

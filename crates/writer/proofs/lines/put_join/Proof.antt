@@ -1,6 +1,6 @@
 use mathlib.Core.List.{[], _∷_}
 use Rattle.rules.specs.Writing.{blank, digitsOf, setText}
-use Rattle.writer.specs.PutLaws.{put-then, put-as, room-first, room-then, room-of}
+use Rattle.digits.specs.PutLaws.{put-then, put-as, room-first, room-then, room-of}
 use Rattle.writer.specs.LineLaws.{join-is}
 use borrow.Author.Needs.{needs}
 use Rattle.writer.proofs.lines.put_join.Statement.{statement}

@@ -1,4 +1,4 @@
-use Rattle.writer.specs.PutLaws.{put-as, room-of}
+use Rattle.digits.specs.PutLaws.{put-as, room-of}
 use Rattle.writer.specs.LineLaws.{refusal-is}
 use borrow.Author.Needs.{needs}
 use Rattle.writer.proofs.lines.put_refusal.Statement.{statement}

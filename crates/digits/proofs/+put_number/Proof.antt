@@ -1,16 +1,16 @@
 use mathlib.Core.Path.{_∙_}
 use native.Mathlib.Omega.{arith}
-use Rattle.writer.specs.PutLaws.{put-then, put-as, put-length, room-then, room-of}
-use Rattle.writer.specs.DigitLaws.{digits-one, digits-more, tenth-less, tenth-room}
+use Rattle.digits.specs.PutLaws.{put-then, put-as, put-length, room-then, room-of}
+use Rattle.digits.specs.DigitLaws.{digits-one, digits-more, tenth-less, tenth-room}
 use Prim.Native.Nat.{ℕ, _<_}
 use borrow.Fn.Kinds.{In}
 use borrow.Fn.PlainCycle.{Measures, is, falls, and}
-use Rattle.writer.proofs.numbers.put_number.Reads as put-number
-use Rattle.writer.proofs.numbers.put_number.Kinds as put-number-kinds
-use Rattle.writer.proofs.numbers.+put_number.Lts-put_number as put-number-lts
-use Rattle.writer.proofs.numbers.put_byte.Reads as put-byte-reads
-use Rattle.writer.proofs.numbers.+put_number.{statement}
-use Rattle.writer.proofs.numbers.+put_number.Tie.{close}
+use Rattle.digits.proofs.put_number.Reads as put-number
+use Rattle.digits.proofs.put_number.Kinds as put-number-kinds
+use Rattle.digits.proofs.+put_number.Lts-put_number as put-number-lts
+use Rattle.digits.proofs.put_byte.Reads as put-byte-reads
+use Rattle.digits.proofs.+put_number.{statement}
+use Rattle.digits.proofs.+put_number.Tie.{close}
 
 abbrev μ-put-number : Measures 1 put-number-kinds.ps ℕ
 μ-put-number κs a = a .1 .1 .0

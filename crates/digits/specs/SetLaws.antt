@@ -12,10 +12,10 @@ use borrow.Author.Tests.{lt-ltb, le-ltb}
 use Rattle.rules.specs.Sets.{has, tablesFrom, tables}
 use Rattle.rules.specs.Writing.{comma, digitsOf, follow, joined, setText}
 use Rattle.rules.specs.laws.Sets.{bit, holds-bit}
-use Rattle.writer.specs.Put.{Put}
-use Rattle.writer.specs.SetText.{tableText}
-use Rattle.writer.specs.PutLaws.{put-none, put-then, put-as, room-then, room-of}
-use Rattle.writer.specs.DigitLaws.{digits-some}
+use Rattle.digits.specs.Put.{Put}
+use Rattle.digits.specs.SetText.{tableText}
+use Rattle.digits.specs.PutLaws.{put-none, put-then, put-as, room-then, room-of}
+use Rattle.digits.specs.DigitLaws.{digits-some}
 
 -- ---- one table more
 abbrev only : Bool → ℕ → List ℕ

@@ -2,11 +2,11 @@ use mathlib.Core.Path.{sym, _∙_}
 use mathlib.Core.List.{[], _∷_}
 use borrow.Author.Tests.{not-true, not-false}
 use Rattle.rules.specs.Writing.{comma}
-use Rattle.writer.specs.PutLaws.{put-none, put-then, put-as, room-first, room-then, room-of}
-use Rattle.writer.specs.SetLaws.{table-none, table-first, table-after}
+use Rattle.digits.specs.PutLaws.{put-none, put-then, put-as, room-first, room-then, room-of}
+use Rattle.digits.specs.SetLaws.{table-none, table-first, table-after}
 use borrow.Author.Needs.{needs}
-use Rattle.writer.proofs.numbers.put_table.Statement.{statement}
-use Rattle.writer.proofs.numbers.put_table.Tie as tie
+use Rattle.digits.proofs.put_table.Statement.{statement}
+use Rattle.digits.proofs.put_table.Tie as tie
 
 has-table-requires : tie.Need-has-table-requires
 has-table-requires c κs = search needs

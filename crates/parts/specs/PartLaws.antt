@@ -22,10 +22,10 @@ use Rattle.rules.specs.laws.Bools.{true-or-false}
 use Rattle.rules.specs.laws.Sets.{bit-le, holds-bit, holds-none, holds-pos, holds-lt, lt-of-holds, holds-sum, holds-single, holds-single-only, holds-out, holds-minus, union-of}
 use Rattle.rules.specs.laws.Refusals.{joins-true, true-joins}
 use Rattle.rules.specs.laws.Estimate.{running-le}
 use Rattle.graph.specs.Node.{Node}
 use Rattle.graph.specs.ApartLaws.{apart-tables, below-with}
 use Rattle.graph.specs.NearLaws.{both-of, both-in, in-right}
-use Rattle.graph.specs.Parts.{cellOf, Own, Parts, byParts, Divides, Valued}
+use Rattle.parts.specs.Parts.{cellOf, Own, Parts, byParts, Divides, Valued}
 
 -- ---- cells
 pub cell-fits : (t u : ℕ) → 1 ≤ t → t ≤ maxTables → 1 ≤ u → u ≤ maxTables → cellOf t u < 256

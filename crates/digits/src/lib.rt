@@ -4,8 +4,8 @@ ghost use mathlib.Core.List.{_∷_, []};
 ghost use lib.ListN.{length};
 ghost use lib.Dec.{ltb};
 ghost use Rattle.rules.specs.Writing.{digitsOf, setText};
-ghost use Rattle.writer.specs.Put.{Put};
-ghost use Rattle.writer.specs.SetText.{tableText};
+ghost use Rattle.digits.specs.Put.{Put};
+ghost use Rattle.digits.specs.SetText.{tableText};
 use sets::has_table;
 
 const ZERO: u8 = 48;

@@ -5,7 +5,7 @@ ghost use lib.ListN.{length, getD};
 ghost use Rattle.rules.specs.Limits.{maxTables, maxRows, maxEstimate};
 ghost use Rattle.rules.specs.Query.{graphOf, edgeCount};
 ghost use Rattle.rules.specs.Checked.{GoodGraph};
-ghost use Rattle.graph.specs.Parts.{cellOf, Own, Parts, Divides, byParts};
+ghost use Rattle.parts.specs.Parts.{cellOf, Own, Parts, Divides, byParts};
 use sets::lowest_table;
 use sets::single;
 

@@ -1,10 +1,10 @@
 use mathlib.Core.Path.{_≡_, refl, sym, _∙_}
 use Prim.Native.Nat.{_-_}
 use native.Mathlib.Omega.{arith}
-use Rattle.graph.specs.Parts.{byParts, Divides}
-use Rattle.graph.specs.PartLaws.{cell-fits, linked-none, linked-step, divides-rest, rest-less, lowest-fits, divisor-at, divides-fits}
-use Rattle.graph.proofs.parts.by_linked.Statement.{statement}
-use Rattle.graph.proofs.parts.by_linked.Tie as tie
+use Rattle.parts.specs.Parts.{byParts, Divides}
+use Rattle.parts.specs.PartLaws.{cell-fits, linked-none, linked-step, divides-rest, rest-less, lowest-fits, divisor-at, divides-fits}
+use Rattle.parts.proofs.by_linked.Statement.{statement}
+use Rattle.parts.proofs.by_linked.Tie as tie
 
 abbrev Inv-loop : tie.InvT-loop
 Inv-loop parts t linked e r₀ left₀ r left = Divides parts t left × (byParts parts left t (t - 1) r ≡ byParts parts linked t (t - 1) e)

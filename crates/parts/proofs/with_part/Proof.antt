@@ -1,7 +1,7 @@
 use native.Mathlib.Omega.{arith}
-use Rattle.graph.specs.PartLaws.{cell-fits, product-fits, cut-is, uncut-is}
-use Rattle.graph.proofs.parts.with_part.Statement.{statement}
-use Rattle.graph.proofs.parts.with_part.Tie as tie
+use Rattle.parts.specs.PartLaws.{cell-fits, product-fits, cut-is, uncut-is}
+use Rattle.parts.proofs.with_part.Statement.{statement}
+use Rattle.parts.proofs.with_part.Tie as tie
 
 cell-requires : tie.Need-cell-requires
 cell-requires c κs = (c .pre .0 .some, c .pre .0 .few, c .pre .0 .some, c .pre .0 .few)

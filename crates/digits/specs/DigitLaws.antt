@@ -8,7 +8,7 @@ use native.Mathlib.Omega.{arith}
 use lib.Dec.{ltb}
 use lib.ListN.{length, length-append}
 use borrow.Author.Tests.{lt-ltb, le-ltb}
-use Rattle.writer.specs.PutLaws.{room-first, room-of}
+use Rattle.digits.specs.PutLaws.{room-first, room-of}
 use Rattle.rules.specs.Lines.{zeroDigit}
 use Rattle.rules.specs.Writing.{digitsBy, digitsOf}
 

@@ -2,10 +2,10 @@ use mathlib.Core.Path.{_≡_, refl, _∙_}
 use Prim.Native.Nat.{_+_, _-_, _*_, _≤_}
 use native.Mathlib.Omega.{arith}
 use lib.ListN.{length, length-set, replicate}
-use Rattle.graph.specs.Parts.{Own}
-use Rattle.graph.specs.PartLaws.{own-none, own-more, own-end}
-use Rattle.graph.proofs.parts.own_parts.Statement.{statement}
-use Rattle.graph.proofs.parts.own_parts.Tie as tie
+use Rattle.parts.specs.Parts.{Own}
+use Rattle.parts.specs.PartLaws.{own-none, own-more, own-end}
+use Rattle.parts.proofs.own_parts.Statement.{statement}
+use Rattle.parts.proofs.own_parts.Tie as tie
 
 abbrev Inv-loop : tie.InvT-loop
 Inv-loop rows parts₀ k₀ k-end parts k = (k ≤ length rows) × (k-end ≡ length rows) × (length parts ≡ 256) × Own rows k parts

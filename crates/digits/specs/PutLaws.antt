@@ -6,7 +6,7 @@ use native.Mathlib.Nat.{add-zero, add-suc, suc-add}
 use native.Mathlib.Omega.{arith}
 use lib.ListN.{length, length-append}
 use lib.Seq.{sets, length-sets}
-use Rattle.writer.specs.Put.{Put}
+use Rattle.digits.specs.Put.{Put}
 
 -- ---- what is put
 pub put-none : (a : List ℕ) (at : ℕ) → Put a a at at []

@@ -1,11 +1,11 @@
 use Prim.Native.Nat.{_+_, _-_, _≤_}
 use native.Mathlib.Omega.{arith}
 use Rattle.rules.specs.Writing.{setText}
-use Rattle.writer.specs.Put.{Put}
-use Rattle.writer.specs.PutLaws.{put-length}
-use Rattle.writer.specs.SetLaws.{set-start, set-step, set-done, table-room}
-use Rattle.writer.proofs.numbers.put_set.Statement.{statement}
-use Rattle.writer.proofs.numbers.put_set.Tie as tie
+use Rattle.digits.specs.Put.{Put}
+use Rattle.digits.specs.PutLaws.{put-length}
+use Rattle.digits.specs.SetLaws.{set-start, set-step, set-done, table-room}
+use Rattle.digits.proofs.put_set.Statement.{statement}
+use Rattle.digits.proofs.put_set.Tie as tie
 
 abbrev Inv-loop : tie.InvT-loop
 Inv-loop out₀ at n set end₀ t₀ out end t = (1 ≤ t) × (t ≤ n + 1) × Put out₀ out at end (setText (t - 1) set)

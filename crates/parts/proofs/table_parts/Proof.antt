@@ -3,11 +3,11 @@ use Prim.Native.Nat.{_-_, _≤_}
 use native.Mathlib.Omega.{arith}
 use lib.ListN.{length, getD, set, length-set}
 use Rattle.rules.specs.Query.{graphOf}
 use Rattle.graph.specs.NextLaws.{edge-fits}
-use Rattle.graph.specs.Parts.{Parts}
-use Rattle.graph.specs.PartLaws.{cell-fits, parts-none, parts-more, parts-end}
-use Rattle.graph.proofs.parts.table_parts.Statement.{statement}
-use Rattle.graph.proofs.parts.table_parts.Tie as tie
+use Rattle.parts.specs.Parts.{Parts}
+use Rattle.parts.specs.PartLaws.{cell-fits, parts-none, parts-more, parts-end}
+use Rattle.parts.proofs.table_parts.Statement.{statement}
+use Rattle.parts.proofs.table_parts.Tie as tie
 
 abbrev Inv-loop : tie.InvT-loop
 Inv-loop rows left right divisors parts₀ i₀ i-end parts i = (i ≤ length left) × (i-end ≡ length left) × (length parts ≡ 256) × Parts (graphOf rows left right divisors) i parts
