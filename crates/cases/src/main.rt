@@ -20,19 +20,67 @@ const STDOUT: i32 = 1;
 const MARK: u64 = 77;
 
 // Room for the largest of these queries, a chain of sixteen tables, and some to spare.
-const ROWS: usize = 140;
+const MOST_ROWS: usize = 140;
 
-const CELLS: usize = 820;
+const MOST_CELLS: usize = 820;
 
-const ENTRIES: usize = 8;
+const MOST_ENTRIES: usize = 8;
 
 // One more than the largest number of a table.
 const PAST_TABLES: u64 = 17;
 
-// The lists of an input stand one after another, in the order of `list_of`: each has a cell for its length, and room for 31 numbers.
+// The lists of an input stand one after another, in the order of `list_of`: each has a cell for its length, and then room for 31 numbers.
 const ROOM: usize = 32;
 
 const MOST: usize = 31;
+
+const INPUT: usize = 480;
+
+// Where the numbers of each list begin.
+const ROWS: usize = 1;
+
+const SCANS: usize = 33;
+
+const LEFT: usize = 65;
+
+const RIGHT: usize = 97;
+
+const DIVISORS: usize = 129;
+
+const FIXED: usize = 161;
+
+const OUTER: usize = 193;
+
+const INNER: usize = 225;
+
+const RESULT: usize = 257;
+
+const TURNS: usize = 289;
+
+const WORKERS: usize = 321;
+
+const SCHEME: usize = 322;
+
+// What is lent: the lengths of the memo's columns, of the skip vectors, of the log's columns.
+const LENT_SETS: usize = 353;
+
+const LENT_ESTIMATES: usize = 354;
+
+const LENT_COSTS: usize = 355;
+
+const LENT_OUTERS: usize = 356;
+
+const LENT_METHODS: usize = 357;
+
+const LENT_SKIPS: usize = 385;
+
+const LOGGED_WORKERS: usize = 417;
+
+const LOGGED_DRIVING: usize = 418;
+
+const LOGGED_INNER: usize = 419;
+
+const LOGGED_COSTS: usize = 420;
 
 fn put(text: &[u8]) {
     io::write_all(STDOUT, text);
@@ -119,7 +167,7 @@ fn print_memo(
     let mut at = 0usize;
     for i in 0..count {
         let set = sets[i];
-        let end = at_most(wrapping_add_usize(at, size(set) as usize), CELLS);
+        let end = at_most(wrapping_add_usize(at, size(set) as usize), MOST_CELLS);
         print_row(set, estimates[i], costs[i], outers[i], methods[i]);
         put(b":");
         print_cells(skips, at, end);
@@ -359,42 +407,42 @@ fn end_of(cells: &[u64], from: usize) -> usize
 
 // Plans what the lists hold.
 fn plan_lists(cells: &[u64], full: bool) {
-    if cells.len() < 480 {
+    if cells.len() < INPUT {
         return;
     }
-    let rows = end_of(cells, 1);
-    let scans = end_of(cells, 33);
-    let left = end_of(cells, 65);
-    let right = end_of(cells, 97);
-    let divisors = end_of(cells, 129);
-    let fixed = end_of(cells, 161);
-    let outer = end_of(cells, 193);
-    let inner = end_of(cells, 225);
-    let result = end_of(cells, 257);
-    let turns = end_of(cells, 289);
+    let rows = end_of(cells, ROWS);
+    let scans = end_of(cells, SCANS);
+    let left = end_of(cells, LEFT);
+    let right = end_of(cells, RIGHT);
+    let divisors = end_of(cells, DIVISORS);
+    let fixed = end_of(cells, FIXED);
+    let outer = end_of(cells, OUTER);
+    let inner = end_of(cells, INNER);
+    let result = end_of(cells, RESULT);
+    let turns = end_of(cells, TURNS);
     plan_in(
-        &cells[1..rows],
-        &cells[33..scans],
-        &cells[65..left],
-        &cells[97..right],
-        &cells[129..divisors],
-        &cells[161..fixed],
-        &cells[193..outer],
-        &cells[225..inner],
-        &cells[257..result],
-        get(cells, 321),
-        get(cells, 322),
-        &cells[289..turns],
-        at_most(get(cells, 353) as usize, ROWS),
-        at_most(get(cells, 354) as usize, ROWS),
-        at_most(get(cells, 355) as usize, ROWS),
-        at_most(get(cells, 356) as usize, ROWS),
-        at_most(get(cells, 357) as usize, ROWS),
-        at_most(get(cells, 385) as usize, CELLS),
-        at_most(get(cells, 417) as usize, ENTRIES),
-        at_most(get(cells, 418) as usize, ENTRIES),
-        at_most(get(cells, 419) as usize, ENTRIES),
-        at_most(get(cells, 420) as usize, ENTRIES),
+        &cells[ROWS..rows],
+        &cells[SCANS..scans],
+        &cells[LEFT..left],
+        &cells[RIGHT..right],
+        &cells[DIVISORS..divisors],
+        &cells[FIXED..fixed],
+        &cells[OUTER..outer],
+        &cells[INNER..inner],
+        &cells[RESULT..result],
+        get(cells, WORKERS),
+        get(cells, SCHEME),
+        &cells[TURNS..turns],
+        at_most(get(cells, LENT_SETS) as usize, MOST_ROWS),
+        at_most(get(cells, LENT_ESTIMATES) as usize, MOST_ROWS),
+        at_most(get(cells, LENT_COSTS) as usize, MOST_ROWS),
+        at_most(get(cells, LENT_OUTERS) as usize, MOST_ROWS),
+        at_most(get(cells, LENT_METHODS) as usize, MOST_ROWS),
+        at_most(get(cells, LENT_SKIPS) as usize, MOST_CELLS),
+        at_most(get(cells, LOGGED_WORKERS) as usize, MOST_ENTRIES),
+        at_most(get(cells, LOGGED_DRIVING) as usize, MOST_ENTRIES),
+        at_most(get(cells, LOGGED_INNER) as usize, MOST_ENTRIES),
+        at_most(get(cells, LOGGED_COSTS) as usize, MOST_ENTRIES),
         full,
     );
 }
@@ -526,7 +574,7 @@ fn take_lines(text: &[u8], kept: &mut [u64], cells: &mut [u64]) {
 fn main() {
     let mut text = [0u8; 16384];
     let length = io::read_full(STDIN, &mut text);
-    let mut kept = [0u64; 480];
-    let mut cells = [0u64; 480];
+    let mut kept = [0u64; INPUT];
+    let mut cells = [0u64; INPUT];
     take_lines(&text[0..length], &mut kept, &mut cells);
 }

@@ -15,6 +15,9 @@ use super::memory::CELL_COUNT;
 use super::memory::LENT_CELLS;
 use super::memory::LENT_LOG;
 use super::memory::LENT_ROWS;
+use super::memory::MOST_CELLS;
+use super::memory::MOST_LOG;
+use super::memory::MOST_ROWS;
 use super::memory::Memory;
 use super::memory::PAIRS;
 use super::memory::REFUSAL;
@@ -102,8 +105,8 @@ fn refusal(m: &Memory) -> u64 {
 fn lend_room(m: &mut Memory) {
     let more = draw(m, 4);
     let rare = draw(m, 64);
-    m[LENT_ROWS] = lent_for(number(m, ROW_COUNT), rare == 0, more, 1024);
-    m[LENT_CELLS] = lent_for(number(m, CELL_COUNT), rare < 2, more, 5120);
+    m[LENT_ROWS] = lent_for(number(m, ROW_COUNT), rare == 0, more, MOST_ROWS);
+    m[LENT_CELLS] = lent_for(number(m, CELL_COUNT), rare < 2, more, MOST_CELLS);
 }
 
 fn lent_for(needed: u64, short: bool, more: u64, most: u64) -> u64 {
@@ -119,7 +122,7 @@ fn lend_log(m: &mut Memory) {
     let short = draw(m, sum(pairs, 1));
     let more = draw(m, 4);
     let coin = draw(m, 4);
-    m[LENT_LOG] = least(either(coin == 0, short, sum(pairs, more)), 2048);
+    m[LENT_LOG] = least(either(coin == 0, short, sum(pairs, more)), MOST_LOG);
 }
 
 // A crew, its turns by the enumeration, and what is lent to planning.

@@ -118,6 +118,13 @@ pub const KEPT: u64 = 65_536;
 
 pub const FIRST: u64 = 98_304;
 
+// Rows, skip cells and log entries that are lent at most.
+pub const MOST_ROWS: u64 = 1024;
+
+pub const MOST_CELLS: u64 = 3072;
+
+pub const MOST_LOG: u64 = 2048;
+
 // More than any cost.
 pub const NEVER: u64 = 1_000_000_000_000_000_000;
 

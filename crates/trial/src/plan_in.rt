@@ -130,7 +130,7 @@ fn at_most(m: &[u64], at: usize, most: usize) -> usize
     most
 }
 
-// The lists of a query stand in the memory.
+// The lists of a query stand in the memory, at the places that `memory` names.
 fn plan_parts(m: &[u64]) -> Columns
     requires { ⌜ 4096 ≤ length (now m) ⌝ }
 {
@@ -160,9 +160,9 @@ fn plan_parts(m: &[u64]) -> Columns
         m[WORKERS],
         m[SCHEME],
         &m[2048..turns],
-        at_most(m, LENT_ROWS, 3072),
-        at_most(m, LENT_CELLS, 3072),
-        at_most(m, LENT_LOG, 3072),
+        at_most(m, LENT_ROWS, CELLS),
+        at_most(m, LENT_CELLS, CELLS),
+        at_most(m, LENT_LOG, CELLS),
     )
 }
 
