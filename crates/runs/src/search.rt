@@ -11,9 +11,9 @@ use crew::nobody;
 use crew::whose::entries_on;
 use crew::whose::lowest;
 use crew::whose::whose_turn;
-use starts::lay_starts;
-use rules::Scheme;
 use opening::open;
+use rules::Scheme;
+use starts::lay_starts;
 use turns::scans::lay_scans;
 use turns::turn::step;
 

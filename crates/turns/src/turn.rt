@@ -8,10 +8,10 @@ use crew::Handed;
 use crew::Worker;
 use crew::table::with_worker;
 use crew::table::worker_at;
+use lookup::seek::seek;
 use pairs::find::next_pair;
 use results::keep::keep;
 use results::price::price;
-use lookup::seek::seek;
 
 // One worker after its turn, and the pair handed.
 pub struct Stepped {
