@@ -3,6 +3,7 @@ use mathlib.Core.Bool.{Bool, _&&_, _||_}
 use mathlib.Core.List.{List}
 use Prim.Native.Nat.{ℕ}
 use lib.Dec.{eqb}
+use Rattle.rules.specs.declared.Shape.the-variants.{Bushy}
 use Rattle.rules.specs.Query.{Query, graphOf}
 
 -- from the lists as they are lent
@@ -14,6 +15,7 @@ queryOf rows scans left right divisors fixed outer inner result = record {
   perOuter = outer;
   perInner = inner;
   perResult = result;
+  shape = Bushy;
 }
 
 -- x and y are a and b, in this order

@@ -2,6 +2,7 @@
 use mathlib.Core.List.{List}
 use Prim.Native.Nat.{ℕ, _≤_}
 use lib.ListN.{length, take}
+use Rattle.rules.specs.declared.Shape.the-variants.{Bushy}
 use Rattle.rules.specs.Limits.{maxTables, maxMethods, maxEdgeLines}
 use Rattle.rules.specs.Answers.{Spared}
 use Rattle.rules.specs.Reading.{Read, Reading}
@@ -30,6 +31,7 @@ readOf p rows scans left right divisors fixed perOuter perInner perResult = reco
     perOuter = take (p .methods) perOuter;
     perInner = take (p .methods) perInner;
     perResult = take (p .methods) perResult;
+    shape = Bushy;
   };
   workers = p .workers;
   scheme = p .scheme;

@@ -3,20 +3,22 @@ use mathlib.Core.Path.{_≡_}
 use mathlib.Core.List.{List, [], _∷_, map}
 use Prim.Native.Nat.{ℕ, zero, suc, _-_, _≤_, _<_}
 use lib.ListN.{length, getD, take, drop}
-use Rattle.rules.specs.declared.Scheme.{Scheme}
-use Rattle.rules.specs.declared.NewScheme.the-variants.{Good}
+use Rattle.rules.specs.declared.Crew.{Crew}
+use Rattle.rules.specs.declared.NewCrew.the-variants.{Good}
 use Rattle.rules.specs.Limits.{maxWorkers}
-use Rattle.rules.specs.Kinds.{schemeOf}
+use Rattle.rules.specs.Kinds.{newCrew}
 use Rattle.rules.specs.Lists.{over}
 use Rattle.rules.specs.Sets.{size, full}
 use Rattle.rules.specs.Query.{Query, tableCount}
 use Rattle.rules.specs.Estimate.{estimate}
 use Rattle.rules.specs.Trees.{Least, Pick}
+use Rattle.rules.specs.Offers.{Pair, union}
 use Rattle.rules.specs.Rows.{memo}
 use Rattle.rules.specs.Skips.{skips}
 use Rattle.rules.specs.Shares.{Numbered, queue}
-use Rattle.rules.specs.Turns.{Hand, Sizes, only}
-use Rattle.rules.specs.Log.{Pair, pairOf, union, Stands}
+use Rattle.rules.specs.Turns.{Hand, Groups, only}
+use Rattle.rules.specs.Schedule.{Schedule, bySize}
+use Rattle.rules.specs.Log.{pairOf, Stands}
 use Rattle.rules.specs.declared.Verdict.{Verdict}
 use Rattle.rules.specs.Refusals.{Memory, Input, verdict}
 
@@ -74,11 +76,19 @@ pub record Filled (q : Query) (before after : Memory) : Type 0 where
   pub methods : Spared (length (memo (q .graph))) (before .methods) (after .methods)
   pub skips : after .skips ≡ over (skips (q .graph)) (before .skips)
 
--- demand 3: the turns in a row hand h, from result size 2 to N
+-- an input's order of work: "For result size S (2 to N)", N less 1 groups from 1 on
+abbrev pub scheduleOf : Input → Schedule
+scheduleOf i = bySize (i .query .shape)
+
+-- the pairs of each worker in each group
+abbrev pub queuesOf : Input → Crew → ℕ → ℕ → List Numbered
+queuesOf i crew k w = queue (i .query .graph) crew (scheduleOf i k) w
+
+-- demand 3: the turns in a row hand h, from the first group to the last
 pub record InTurn (i : Input) (h : List (Hand Numbered)) : Type 0 where
-  pub scheme : Scheme
-  pub named : schemeOf (i .scheme) ≡ Good scheme
-  pub sizes : Sizes (i .workers) (queue (i .query .graph) scheme (i .workers)) 2 (tableCount (i .query .graph) - 1) (i .turns) h
+  pub crew : Crew
+  pub named : newCrew (i .workers) (i .scheme) ≡ Good crew
+  pub groups : Groups (crew .workers) (queuesOf i crew) 1 (tableCount (i .query .graph) - 1) (i .turns) h
 
 -- "It holds the first pairs that fit": as many as the log has room for
 abbrev pub shown : Memory → List (Hand Numbered) → List (Hand Numbered)

@@ -1,13 +1,15 @@
--- The candidates of one result size, "met smaller size first, then driving row, then inner row", and which are joinable.
+-- The candidates of one group, "met smaller size first, then driving row, then inner row", and which are joinable.
 use mathlib.Core.Bool.{Bool, cond, _&&_}
 use mathlib.Core.List.{List, [], _∷_, _++_}
-use Prim.Native.Nat.{ℕ, suc, _+_, _-_, _/_}
+use Prim.Native.Nat.{ℕ, suc}
 use lib.Dec.{eqb}
 use lib.ListN.{length}
 use Rattle.rules.specs.Lists.{isYes, inRow}
 use Rattle.rules.specs.Sets.{disjoint}
 use Rattle.rules.specs.Query.{Graph}
 use Rattle.rules.specs.Rows.{rowsOf}
+use Rattle.rules.specs.declared.Group.{Group}
+use Rattle.rules.specs.Schedule.{innerAt}
 use Rattle.rules.specs.laws.Decide.{between?}
 
 -- a driving row and an inner row that are met
@@ -37,17 +39,17 @@ unfoldable pub within : ℕ → ℕ → List ℕ → List Candidate
 within D i [] = []
 within D i (X ∷ xs) = withRow D i X 0 xs ++ within D (suc i) xs
 
--- the candidates of result size s with driving size d: "the inner size is S less that"
-unfoldable pub driven : (ℕ → List ℕ) → ℕ → ℕ → List Candidate
-driven rows s d = cond (eqb (d + d) s) (within (length (rows d)) 0 (rows d)) (across (length (rows d)) 0 (rows d) (rows (s - d)))
+-- the candidates of a group with driving size d
+unfoldable pub driven : (ℕ → List ℕ) → Group → ℕ → List Candidate
+driven rows group d = cond (eqb d (innerAt group d)) (within (length (rows d)) 0 (rows d)) (across (length (rows d)) 0 (rows d) (rows (innerAt group d)))
 
--- "the driving size runs from 1 to S/2 rounded down"
-unfoldable pub candidatesOf : (ℕ → List ℕ) → ℕ → List Candidate
-candidatesOf rows s = inRow (driven rows s) 1 (s / 2)
+-- with all its driving sizes
+unfoldable pub candidatesOf : (ℕ → List ℕ) → Group → List Candidate
+candidatesOf rows group = inRow (driven rows group) 1 (group .last)
 
--- all candidates of result size s, over the memo's rows
-unfoldable pub candidates : Graph → ℕ → List Candidate
-candidates g s = candidatesOf (rowsOf g) s
+-- all candidates of a group, over the memo's rows
+unfoldable pub candidates : Graph → Group → List Candidate
+candidates g group = candidatesOf (rowsOf g) group
 
 -- "A candidate is joinable if the sets are disjoint and an edge runs between them."
 unfoldable pub joinable : Graph → Candidate → Bool

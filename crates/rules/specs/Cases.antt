@@ -6,16 +6,17 @@ use Prim.Native.Nat.{ℕ, _*_}
 use native.Mathlib.Omega.{arith}
 use lib.ListN.{length, replicate, take, drop}
 use Rattle.rules.specs.declared.Scheme.the-variants.{CutCandidates}
+use Rattle.rules.specs.declared.Shape.the-variants.{Bushy, Single}
 use Rattle.rules.specs.Query.{Query}
 use Rattle.rules.specs.Estimate.{estimate}
 use Rattle.rules.specs.Trees.{Least, Pick}
+use Rattle.rules.specs.Offers.{Choice}
 use Rattle.rules.specs.Rows.{Before}
 use Rattle.rules.specs.Skips.{vectors}
 use Rattle.rules.specs.Shares.{share}
 use Rattle.rules.specs.declared.Verdict.{Verdict}
 use Rattle.rules.specs.Refusals.{Memory, Input, verdict}
-use Rattle.rules.specs.Answers.{Row}
-use Rattle.rules.specs.laws.Choice.{Choice}
+use Rattle.rules.specs.Answers.{Row, scheduleOf}
 use Rattle.rules.specs.laws.Reference.{offersBelow}
 use Rattle.rules.specs.laws.Outcome.{bestAt, outcome, computed, outcome-planned}
 
@@ -28,6 +29,7 @@ example = record {
   perOuter = 1 ∷ 1 ∷ [];
   perInner = 2 ∷ 1 ∷ [];
   perResult = 1 ∷ 1 ∷ [];
+  shape = Bushy;
 }
 
 -- 000's figure 4: "eight tables, edges 1-2, 1-3, 1-4, 2-5, 2-6, 4-7, 4-8"
@@ -39,6 +41,7 @@ figure4 = record {
   perOuter = 1 ∷ [];
   perInner = 1 ∷ [];
   perResult = 1 ∷ [];
+  shape = Bushy;
 }
 
 -- a query of tables with these rows, each scanned for 5, without an edge
@@ -50,7 +53,12 @@ loose rows = record {
   perOuter = 1 ∷ [];
   perInner = 1 ∷ [];
   perResult = 1 ∷ [];
+  shape = Bushy;
 }
+
+-- the query with the second shape of 02, R-2
+abbrev pub singly : Query → Query
+singly q = record { graph = q .graph; scans = q .scans; fixed = q .fixed; perOuter = q .perOuter; perInner = q .perInner; perResult = q .perResult; shape = Single }
 
 -- what stands in lent memory before, so that what is spare can be seen
 abbrev pub mark : ℕ
@@ -115,8 +123,8 @@ pub record Cases : Type 0 where
   pub C5-inner : outcome pair .left .logInner ≡ 4 ∷ 2 ∷ 6 ∷ 3 ∷ mark ∷ []
   pub C5-costs : outcome pair .left .logCosts ≡ 2135 ∷ 335 ∷ 3485 ∷ 3485 ∷ mark ∷ []
   -- "C6 scheme 1 there, size 2: worker 0 has one candidate, worker 1 two"
-  pub C6-first : length (share (example .graph) CutCandidates 2 2 0) ≡ 1
-  pub C6-second : length (share (example .graph) CutCandidates 2 2 1) ≡ 2
+  pub C6-first : length (share (example .graph) (record { workers = 2; scheme = CutCandidates }) (scheduleOf pair 1) 0) ≡ 1
+  pub C6-second : length (share (example .graph) (record { workers = 2; scheme = CutCandidates }) (scheduleOf pair 1) 1) ≡ 2
   -- "C7 N = 1: scan cost, no pairs"
   pub C7 : outcome (alone (loose (9 ∷ [])) (lend 1 1 0)) .answer ≡ record { refusal = 0; place = 0; best = 5; rows = 1; cells = 1; pairs = 0; counts = replicate 8 0 }
   -- "C8 N = 0: refusal 2"
@@ -131,6 +139,11 @@ pub record Cases : Type 0 where
   -- "C12 ten cells pass, nine give 14"
   pub C12-ten : verdict (alone example (lend 6 10 0)) ≡ refused 0
   pub C12-nine : verdict (alone example (lend 6 9 0)) ≡ refused 14
+  -- 02, R-2: "For the query of 01 the joins become outer {1}, inner {2}, method 1, cost 335, then outer {1,2}, inner {3}, method 2, cost 3485."
+  pub R2-costs : outcome (alone (singly example) (lend 6 10 0)) .left .costs ≡ 100 ∷ 10 ∷ 1000 ∷ 335 ∷ 2135 ∷ 3485 ∷ []
+  pub R2-outers : outcome (alone (singly example) (lend 6 10 0)) .left .outers ≡ 0 ∷ 0 ∷ 0 ∷ 1 ∷ 4 ∷ 3 ∷ []
+  pub R2-methods : outcome (alone (singly example) (lend 6 10 0)) .left .methods ≡ 0 ∷ 0 ∷ 0 ∷ 1 ∷ 1 ∷ 2 ∷ []
+  pub R2-pairs : outcome (alone (singly example) (lend 6 10 0)) .answer .pairs ≡ 4
   -- "{1,2} stands before {1,10}"
   pub numbers-not-text : Before (1 ∷ 2 ∷ []) (1 ∷ 10 ∷ [])
 
@@ -157,6 +170,10 @@ cases = record {
   C11 = refl;
   C12-ten = refl;
   C12-nine = refl;
+  R2-costs = refl;
+  R2-outers = refl;
+  R2-methods = refl;
+  R2-pairs = refl;
   numbers-not-text = inr (refl, inl (omega arith));
 }
 
@@ -164,3 +181,8 @@ cases = record {
 pub case-2 : Least example 7 3485 × Pick example 7 1 2
 unfolding computed
 case-2 = let r : Row example 7 3485 1 2 = outcome-planned (alone example (lend 7 11 0)) .given refl .memory .rows 5 (omega arith) in (r .least, r .more (omega arith))
+
+-- R-2's plan over all trees of the shape: no tree costs less than 3485, and outer {1,2} with method 2 is the pick
+pub case-R2 : Least (singly example) 7 3485 × Pick (singly example) 7 3 2
+unfolding computed
+case-R2 = let r : Row (singly example) 7 3485 3 2 = outcome-planned (alone (singly example) (lend 7 11 0)) .given refl .memory .rows 5 (omega arith) in (r .least, r .more (omega arith))

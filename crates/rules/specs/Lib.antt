@@ -7,8 +7,10 @@ pub mod Query
 pub mod Connected
 pub mod Estimate
 pub mod Trees
+pub mod Offers
 pub mod Rows
 pub mod Skips
+pub mod Schedule
 pub mod Candidates
 pub mod Shares
 pub mod Turns

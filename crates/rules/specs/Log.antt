@@ -1,42 +1,29 @@
 -- The log's standing cost: "the cost in the result's row after that turn, which is the least over the logged pairs of that set so far".
 use mathlib.Core.Path.{_≡_}
-use mathlib.Core.Logic.{_⊎_}
 use mathlib.Core.List.{List, List·Memᴰ}
-use Prim.Native.Nat.{ℕ, _+_, _≤_}
-use Rattle.rules.specs.Query.{Query, IsMethod}
-use Rattle.rules.specs.Trees.{Least, price}
+use Prim.Native.Nat.{ℕ, _≤_}
+use Rattle.rules.specs.Query.{Query}
+use Rattle.rules.specs.Trees.{Least}
+use Rattle.rules.specs.Offers.{Pair, union, Choice, Offers}
 use Rattle.rules.specs.Shares.{Numbered}
 use Rattle.rules.specs.Turns.{Hand}
 
--- a pair as its two sets
-pub record Pair : Type 0 where
-  pub driving : ℕ
-  pub inner : ℕ
+-- the pair of a candidate
+abbrev pub setsOf : Numbered → Pair
+setsOf x = record { driving = x .candidate .driving; inner = x .candidate .inner }
 
 -- the pair that a turn handed
 abbrev pub pairOf : Hand Numbered → Pair
-pairOf x = record { driving = x .candidate .candidate .driving; inner = x .candidate .candidate .inner }
+pairOf x = setsOf (x .candidate)
 
--- the set of the pair's result
-abbrev pub union : Pair → ℕ
-union p = p .driving + p .inner
-
--- "Both outer choices .. of a joinable pair are priced": outer X and inner Y are the pair, one way round or the other
-abbrev pub WayRound : Pair → ℕ → ℕ → Type 0
-WayRound p X Y = ((p .driving ≡ X) × (p .inner ≡ Y)) ⊎ ((p .driving ≡ Y) × (p .inner ≡ X))
-
--- "Both outer choices and all methods of a joinable pair are priced in one turn": c is one of these costs, over best parts
+-- c is the cost of one of the choices that the pair offers, over best parts
 pub record Prices (q : Query) (p : Pair) (c : ℕ) : Type 0 where
-  pub outer : ℕ
-  pub inner : ℕ
-  pub way : WayRound p outer inner
-  pub method : ℕ
-  pub known : IsMethod q method
-  pub outer-cost : ℕ
-  pub inner-cost : ℕ
-  pub outer-best : Least q outer outer-cost
-  pub inner-best : Least q inner inner-cost
-  pub costs : c ≡ outer-cost + inner-cost + price q outer inner method
+  pub best : ℕ → ℕ
+  pub driving-best : Least q (p .driving) (best (p .driving))
+  pub inner-best : Least q (p .inner) (best (p .inner))
+  pub choice : Choice
+  pub offers : Offers q best p choice
+  pub costs : c ≡ choice .cost
 
 -- c is the least of the costs that the pairs h price for the set S
 pub record Stands (q : Query) (h : List Pair) (S c : ℕ) : Type 0 where

@@ -4,6 +4,7 @@ use mathlib.Core.Logic.{_⊎_}
 use mathlib.Core.List.{List}
 use Prim.Native.Nat.{ℕ, _-_, _≤_, _<_}
 use lib.ListN.{length, getD}
+use Rattle.rules.specs.declared.Shape.{Shape}
 use Rattle.rules.specs.Sets.{holds}
 
 -- tables and edges: all that connected sets and estimates look at
@@ -25,6 +26,8 @@ pub record Query : Type 0 where
   pub perOuter : List ℕ
   pub perInner : List ℕ
   pub perResult : List ℕ
+  -- the shape that its plans are to have (02, R-2)
+  pub shape : Shape
 
 -- from the lists as they are lent
 abbrev pub graphOf : List ℕ → List ℕ → List ℕ → List ℕ → Graph

@@ -10,6 +10,7 @@ use Rattle.rules.specs.declared.forms.Kind.the-variants.{Table, Method, 
 use Rattle.rules.specs.declared.forms.Letter.{Letter}
 use Rattle.rules.specs.declared.forms.Letter.the-variants.{Known, Unknown}
 use Rattle.rules.specs.Limits.{maxTables, maxMethods, maxEdgeLines, maxBytes}
+use Rattle.rules.specs.declared.Shape.the-variants.{Bushy}
 use Rattle.rules.specs.Query.{Query, tableCount, edgeCount, methodCount}
 use Rattle.rules.specs.Refusals.{none}
 use Rattle.rules.specs.Lines.{newline, lines, fields, isNumber, valueOf}
@@ -83,7 +84,7 @@ pub record Read : Type 0 where
 -- no line yet
 abbrev pub nothing : Read
 nothing = record {
-  query = record { graph = record { rows = []; left = []; right = []; divisors = [] }; scans = []; fixed = []; perOuter = []; perInner = []; perResult = [] };
+  query = record { graph = record { rows = []; left = []; right = []; divisors = [] }; scans = []; fixed = []; perOuter = []; perInner = []; perResult = []; shape = Bushy };
   workers = 0;
   scheme = 0;
   latest = 0;
@@ -111,6 +112,7 @@ withRecord Table v s = record {
     perOuter = s .query .perOuter;
     perInner = s .query .perInner;
     perResult = s .query .perResult;
+    shape = s .query .shape;
   };
   workers = s .workers;
   scheme = s .scheme;
@@ -124,6 +126,7 @@ withRecord Method v s = record {
     perOuter = push (s .query .perOuter) (getD v 1 0);
     perInner = push (s .query .perInner) (getD v 2 0);
     perResult = push (s .query .perResult) (getD v 3 0);
+    shape = s .query .shape;
   };
   workers = s .workers;
   scheme = s .scheme;
@@ -137,6 +140,7 @@ withRecord Edge v s = record {
     perOuter = s .query .perOuter;
     perInner = s .query .perInner;
     perResult = s .query .perResult;
+    shape = s .query .shape;
   };
   workers = s .workers;
   scheme = s .scheme;

@@ -4,6 +4,8 @@ use mathlib.Core.List.{List, [], _∷_}
 use Prim.Native.Nat.{ℕ, suc, _+_, _*_, _/_, _%_}
 use lib.Dec.{eqb, leb, ltb}
 use lib.ListN.{length}
+use Rattle.rules.specs.declared.Crew.{Crew}
+use Rattle.rules.specs.declared.Group.{Group}
 use Rattle.rules.specs.declared.Scheme.{Scheme}
 use Rattle.rules.specs.declared.Scheme.the-variants.{CutCandidates, CutRows, DealRows, DealInner}
 use Rattle.rules.specs.Lists.{keep}
@@ -35,14 +37,14 @@ owns CutRows T m w x = inCut (x .candidate .rows) m w (x .candidate .row)
 owns DealRows T m w x = eqb (x .candidate .row % m) w
 owns DealInner T m w x = eqb (x .candidate .count % m) w
 
--- the candidates of result size s, numbered
-unfoldable pub met : Graph → ℕ → List Numbered
-met g s = numbered 0 (candidates g s)
+-- the candidates of a group, numbered
+unfoldable pub met : Graph → Group → List Numbered
+met g group = numbered 0 (candidates g group)
 
--- worker w's share of result size s, "before any test"
-unfoldable pub share : Graph → Scheme → ℕ → ℕ → ℕ → List Numbered
-share g scheme m s w = keep (owns scheme (length (met g s)) m w) (met g s)
+-- worker w's share of a group, "before any test"
+unfoldable pub share : Graph → Crew → Group → ℕ → List Numbered
+share g crew group w = keep (owns (crew .scheme) (length (met g group)) (crew .workers) w) (met g group)
 
 -- the joinable pairs of worker w's share, in the order in which it is to have them
-unfoldable pub queue : Graph → Scheme → ℕ → ℕ → ℕ → List Numbered
-queue g scheme m s w = keep (λ (x : Numbered). joinable g (x .candidate)) (share g scheme m s w)
+unfoldable pub queue : Graph → Crew → Group → ℕ → List Numbered
+queue g crew group w = keep (λ (x : Numbered). joinable g (x .candidate)) (share g crew group w)

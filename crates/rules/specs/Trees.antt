@@ -1,9 +1,13 @@
 -- Trees over a query, their cost, the least cost of a set, and the join that 01's tie rule picks.
 use mathlib.Core.Path.{_≡_}
+use mathlib.Core.Bool.{Bool, true}
 use Prim.Native.Nat.{ℕ, _+_, _*_, _≤_}
+use lib.Dec.{eqb}
+use Rattle.rules.specs.declared.Shape.{Shape}
+use Rattle.rules.specs.declared.Shape.the-variants.{Bushy, Single}
 use Rattle.rules.specs.declared.Step.{Step}
 use Rattle.rules.specs.declared.Step.the-variants.{Scan, Join}
-use Rattle.rules.specs.Sets.{Disjoint, single}
+use Rattle.rules.specs.Sets.{Disjoint, single, size}
 use Rattle.rules.specs.Query.{Graph, Query, IsTable, IsMethod, Between, at}
 use Rattle.rules.specs.Estimate.{estimate}
 
@@ -27,10 +31,19 @@ pub record Joinable (g : Graph) (X Y : ℕ) : Type 0 where
   pub apart : Disjoint X Y
   pub between : Between g X Y
 
--- "Both parts of a join are disjoint, connected, and have an edge between them." That they are connected follows: laws.Connected, connected-tree.
+-- an inner part of n tables fits the shape: any does, or "the inner part of each join is a single table"
+unfoldable pub fits : Shape → ℕ → Bool
+fits Bushy n = true
+fits Single n = eqb n 1
+
+-- the set Y may be the inner part of a join
+abbrev pub Inner : Query → ℕ → Type 0
+Inner q Y = fits (q .shape) (size Y) ≡ true
+
+-- "Both parts of a join are disjoint, connected, and have an edge between them", and the inner one fits the shape. That they are connected follows: laws.Connected, connected-tree.
 unfoldable pub Valid : Query → Tree → Type 0
 Valid q (scan t) = IsTable (q .graph) t
-Valid q (join x y m) = Valid q x × Valid q y × Joinable (q .graph) (tablesOf x) (tablesOf y) × IsMethod q m
+Valid q (join x y m) = Valid q x × Valid q y × Joinable (q .graph) (tablesOf x) (tablesOf y) × IsMethod q m × Inner q (tablesOf y)
 
 -- "fixed + a·est(X) + b·est(Y) + c·est(X and Y together)"
 unfoldable pub price : Query → ℕ → ℕ → ℕ → ℕ
@@ -57,6 +70,7 @@ pub record Reaches (q : Query) (S x m : ℕ) : Type 0 where
   pub outer-best : Least q x outer-cost
   pub inner-best : Least q inner inner-cost
   pub joinable : Joinable (q .graph) x inner
+  pub shaped : Inner q inner
   pub whole : x + inner ≡ S
   pub method : IsMethod q m
   pub reaches : Least q S (outer-cost + inner-cost + price q x inner m)

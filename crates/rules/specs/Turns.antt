@@ -1,4 +1,4 @@
--- The turns of one size, and of all sizes in a row. Each worker has a queue of pairs; C is what a pair is.
+-- The turns of one group, and of all groups in a row. Each worker has a queue of pairs; C is what a pair is.
 use mathlib.Core.Path.{_≡_}
 use mathlib.Core.Bool.{cond}
 use mathlib.Core.List.{List, [], _∷_, _++_}
@@ -35,7 +35,7 @@ module _ {C : Type 0} where
     pub left : qs w ≡ [] → ⊥
     pub lower : (v : ℕ) → v < w → qs v ≡ []
 
-  -- one size: from queues qs and entries ts it hands h and leaves the entries u
+  -- one group: from queues qs and entries ts it hands h and leaves the entries u
   pub data Run (m : ℕ) : (ℕ → List C) → List ℕ → List (Hand C) → List ℕ → Type 0 where
     -- "A size closes as soon as no worker has a joinable pair left .. the next entry belongs to the next size"
     closed : {qs : ℕ → List C} {ts : List ℕ} {h : List (Hand C)} {u : List ℕ} → Empty m qs → h ≡ [] → u ≡ ts → Run m qs ts h u
@@ -46,10 +46,10 @@ module _ {C : Type 0} where
     lowest : {qs : ℕ → List C} {w : ℕ} {h h′ : List (Hand C)} {u : List ℕ}
         → Lowest m qs w → Run m (pop w qs) [] h′ u → h ≡ hand w (qs w) ++ h′ → Run m qs [] h u
 
-  -- n sizes from s on, each with the entries that the one before left: they hand h. "Entries left at the end are ignored"
-  unfoldable pub Sizes : ℕ → (ℕ → ℕ → List C) → ℕ → ℕ → List ℕ → List (Hand C) → Type 0
-  Sizes m queues s zero ts h = h ≡ []
-  Sizes m queues s (suc n) ts h = (h₁ h₂ : List (Hand C)) × (u : List ℕ) × Run m (queues s) ts h₁ u × Sizes m queues (suc s) n u h₂ × (h ≡ h₁ ++ h₂)
+  -- n groups from k on, each with the entries that the one before left: they hand h. "Entries left at the end are ignored"
+  unfoldable pub Groups : ℕ → (ℕ → ℕ → List C) → ℕ → ℕ → List ℕ → List (Hand C) → Type 0
+  Groups m queues k zero ts h = h ≡ []
+  Groups m queues k (suc n) ts h = (h₁ h₂ : List (Hand C)) × (u : List ℕ) × Run m (queues k) ts h₁ u × Groups m queues (suc k) n u h₂ × (h ≡ h₁ ++ h₂)
 
   -- the pairs that worker w was handed, in order
   unfoldable pub only : ℕ → List (Hand C) → List C

@@ -23,6 +23,7 @@ second = alone (record {
   perOuter = example .perOuter;
   perInner = example .perInner;
   perResult = example .perResult;
+  shape = example .shape;
 }) (lend 7 11 0)
 
 -- C5's crew with no room in the log

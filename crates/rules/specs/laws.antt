@@ -10,6 +10,7 @@ pub mod Decide
 pub mod Rows
 pub mod Choice
 pub mod Bellman
+pub mod Ways
 pub mod Handed
 pub mod Memo
 pub mod Picked
@@ -21,8 +22,11 @@ pub mod Skips
 pub mod Turns
 pub mod Hands
 pub mod Complete
+pub mod Schedule
+pub mod Final
 pub mod Refusals
 pub mod Outcome
+pub mod Progress
 pub mod Answers
 pub mod Writing
 pub mod Text

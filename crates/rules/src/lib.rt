@@ -1,7 +1,10 @@
 // The types of document 01, each with its limits, and constructors that refuse over them.
 // What every name of a contract means stands in specs/.
 ghost use mathlib.Core.Path.{_≡_};
-ghost use Rattle.rules.specs.Limits.{inRange, tablesFit, methodsFit};
+ghost use Prim.Native.Nat.{_≤_};
+ghost use Rattle.rules.specs.Limits.{maxTables, inRange, tablesFit, methodsFit};
+ghost use Rattle.rules.specs.declared.Shape.the-variants.{Bushy};
+ghost use Rattle.rules.specs.Schedule.{bySize};
 ghost use Rattle.rules.specs.Kinds.{newTable, newEdge, newMethod, newCrew, schemeOf, schemeNumber};
 
 pub mod forms;
@@ -213,6 +216,38 @@ impl Crew {
                 scheme: known,
             }),
             NewScheme::Unknown => NewCrew::Refused,
+        }
+    }
+}
+
+// The shapes of a plan: any, or the inner part of each join is a single table.
+pub enum Shape {
+    Bushy,
+    Single,
+}
+
+// A group of candidates that are met and shared together: driving sizes 1 to `last`, each with one inner size, which is `base` less the
+// driving size where it falls, and else `base`; and whether both outer choices of its pairs are priced, or only the inner set as the
+// outer one. A group says all that the search needs to know of the order of work and of the shape.
+pub struct Group {
+    pub last: usize,
+    pub base: usize,
+    pub falling: bool,
+    pub both: bool,
+}
+
+impl Group {
+    // Group `k` of document 01's order of work: the candidates whose result has k + 1 tables, for plans of any shape.
+    pub fn by_size(k: usize) -> Group
+        requires { ⌜ k ≤ maxTables ⌝ }
+        ensures { λ r. ⌜ r ≡ bySize Bushy k ⌝ }
+    {
+        let size = k + 1;
+        Group {
+            last: size / 2,
+            base: size,
+            falling: true,
+            both: true,
         }
     }
 }

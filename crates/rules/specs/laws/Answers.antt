@@ -15,16 +15,17 @@ use Rattle.rules.specs.Sets.{size, full}
 use Rattle.rules.specs.Query.{Query, tableCount}
 use Rattle.rules.specs.Trees.{Least}
 use Rattle.rules.specs.Rows.{memo}
-use Rattle.rules.specs.Shares.{Numbered, queue}
+use Rattle.rules.specs.Shares.{Numbered}
 use Rattle.rules.specs.Turns.{Hand, only}
 use Rattle.rules.specs.Refusals.{Memory, Input, verdict}
-use Rattle.rules.specs.Answers.{Outcome, each, refusal, Refused, Spared, Row, Filled, InTurn, Logged, Counted, Given, Planned}
+use Rattle.rules.specs.Answers.{Outcome, each, refusal, Refused, Spared, Row, Filled, queuesOf, InTurn, Logged, Counted, Given, Planned}
 use Rattle.rules.specs.laws.Lists.{sum}
 use Rattle.rules.specs.laws.Bellman.{least-unique, pick-unique}
 use Rattle.rules.specs.laws.Handed.{stands-unique}
-use Rattle.rules.specs.laws.Turns.{sizes-unique, sumTo, counts-sum, Below}
+use Rattle.rules.specs.laws.Turns.{groups-unique, sumTo, counts-sum, Below}
 use Rattle.rules.specs.laws.Hands.{only-absent}
-use Rattle.rules.specs.laws.Complete.{sizes-below}
+use Rattle.rules.specs.laws.Complete.{groups-below}
+use Rattle.rules.specs.laws.Kinds.{crew-workers}
 use Rattle.rules.specs.laws.Refusals.{accepted}
 use Rattle.rules.specs.laws.Outcome.{outcome, outcome-planned, entries-of}
 
@@ -80,8 +81,8 @@ crew-free {i} {i′} {o} {o′} e l g g′ =
 -- what the turns hand is settled by the input
 pub hands-unique : {i : Input} {h h′ : List (Hand Numbered)} → InTurn i h → InTurn i h′ → h ≡ h′
 hands-unique {i} {h} {h′} t t′ =
-    let e : t .scheme ≡ t′ .scheme = cc (t .named, t′ .named) in
-    sizes-unique (i .workers) (queue (i .query .graph) (t′ .scheme) (i .workers)) 2 (tableCount (i .query .graph) - 1) (i .turns) h h′ (rw e at (t .sizes)) (t′ .sizes)
+    let e : t .crew ≡ t′ .crew = cc (t .named, t′ .named) in
+    groups-unique (t′ .crew .workers) (queuesOf i (t′ .crew)) 1 (tableCount (i .query .graph) - 1) (i .turns) h h′ (rw e at (t .groups)) (t′ .groups)
 
 -- ANY TWO PLANS of one input are equal
 given-unique : {i : Input} {o o′ : Outcome} → Given i o → Given i o′ → o ≡ o′
@@ -172,8 +173,10 @@ each-at-zero f v (suc n) (suc w) h = each-at-zero f (suc v) n w (λ k l. h k (om
 module _ {i : Input} {o : Outcome} (e : verdict i .number ≡ 0) (g : Given i o) where
   handed-below : Below (i .workers) (g .handed)
   handed-below =
-      sizes-below (i .workers) (queue (i .query .graph) (g .turns .scheme) (i .workers)) 2 (tableCount (i .query .graph) - 1) (i .turns) (g .handed)
-      (entries-of (i .workers) (i .turns) (accepted i e .checked .turns)) (g .turns .sizes)
+      let w : g .turns .crew .workers ≡ i .workers = crew-workers (i .workers) (i .scheme) (g .turns .named) in
+      let b = groups-below (g .turns .crew .workers) (queuesOf i (g .turns .crew)) 1 (tableCount (i .query .graph) - 1) (i .turns) (g .handed)
+      (rw w (entries-of (i .workers) (i .turns) (accepted i e .checked .turns))) (g .turns .groups) in
+      rw w at b
 
   -- "The eight sum to the number of pairs."
   pub counts-pairs : sum (o .answer .counts) ≡ o .answer .pairs

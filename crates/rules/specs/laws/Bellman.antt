@@ -3,13 +3,14 @@ use mathlib.Core.Path.{_≡_, refl, sym, ap, _∙_}
 use Prim.Native.Nat.{ℕ, _+_, _-_, _≤_, _<_}
 use native.Mathlib.Nat.{le-antisymm}
 use native.Mathlib.Omega.{arith}
-use Rattle.rules.specs.laws.Choice.{Choice, Best}
+use Rattle.rules.specs.Offers.{Choice}
+use Rattle.rules.specs.laws.Choice.{Best}
 use Rattle.rules.specs.Sets.{size}
 use Rattle.rules.specs.laws.Sets.{size-sum, size-pow, size-pos, holds-pos}
 use lib.Pow.{pow-pos}
 use Rattle.rules.specs.Query.{Graph, Query, IsMethod, Between}
 use Rattle.rules.specs.Connected.{Connected}
-use Rattle.rules.specs.Trees.{Tree, scan, join, tablesOf, Joinable, Valid, price, costOf, Least, Reaches, Pick}
+use Rattle.rules.specs.Trees.{Tree, scan, join, tablesOf, Joinable, Valid, price, costOf, Inner, Least, Reaches, Pick}
 use Rattle.rules.specs.laws.Connected.{connected-tree}
 
 module _ (q : Query) (best : ℕ → ℕ) where
@@ -19,6 +20,7 @@ module _ (q : Query) (best : ℕ → ℕ) where
     pub outer-conn : Connected (q .graph) (k .outer)
     pub inner-conn : Connected (q .graph) other
     pub joinable : Joinable (q .graph) (k .outer) other
+    pub shaped : Inner q other
     pub whole : k .outer + other ≡ S
     pub method : IsMethod q (k .method)
     pub costs : k .cost ≡ best (k .outer) + best other + price q (k .outer) other (k .method)
@@ -73,6 +75,7 @@ module _ (q : Query) (best : ℕ → ℕ) (S : ℕ) (two : 2 ≤ size S) (parts 
       offer-inner .valid,
       rw (offer-outer .covers, offer-inner .covers) (o .joinable),
       o .method,
+      rw (offer-inner .covers) (o .shaped),
     )
 
     offer-costs : costOf q offer-tree ≡ k .cost
@@ -91,6 +94,7 @@ module _ (q : Query) (best : ℕ → ℕ) (S : ℕ) (two : 2 ≤ size S) (parts 
       outer-conn = connected-tree q x (v .0);
       inner-conn = connected-tree q y (v .1);
       joinable = v .2;
+      shaped = v .4;
       whole = e;
       method = v .3;
       costs = refl;
@@ -124,6 +128,7 @@ module _ (q : Query) (best : ℕ → ℕ) (S : ℕ) (two : 2 ≤ size S) (parts 
       outer-conn = rw (r .outer-best .covers) at (connected-tree q (r .outer-best .tree) (r .outer-best .valid));
       inner-conn = rw (r .inner-best .covers) at (connected-tree q (r .inner-best .tree) (r .inner-best .valid));
       joinable = r .joinable;
+      shaped = r .shaped;
       whole = r .whole;
       method = r .method;
       costs = refl;
@@ -144,6 +149,7 @@ module _ (q : Query) (best : ℕ → ℕ) (S : ℕ) (two : 2 ≤ size S) (parts 
       outer-best = offer-outer o;
       inner-best = offer-inner o;
       joinable = o .joinable;
+      shaped = o .shaped;
       whole = o .whole;
       method = o .method;
       reaches = rw (← o .costs) (bellman-least b);

@@ -1,21 +1,22 @@
--- The candidates of a size: every two rows whose sizes make it are met, one way round, and nothing else is.
+-- The candidates of a group: every two rows of a driving size and its inner size are met, one way round, and nothing else is.
 use mathlib.Core.Path.{_≡_, refl, sym, ap, _∙_, subst}
 use mathlib.Core.Logic.{_⊎_, inl, inr, ⊎-elim}
 use mathlib.Core.Bool.{true, false, cond}
 use mathlib.Core.List.{List, [], _∷_, _++_, List·Memᴰ, List·Memᴰ·head, List·Memᴰ·tail, List·Memᴰ·cases-cons, List·Memᴰ·append-cases, Memᴰ·append-left, Memᴰ·append-right, List·Memᴰ·not-nil, Memᴰ·cast}
-use Prim.Native.Nat.{ℕ, zero, suc, _+_, _-_, _/_, _≤_, _<_}
-use native.Mathlib.Decide.{decLt}
+use Prim.Native.Nat.{ℕ, zero, suc, _+_, _≤_, _<_}
 use native.Mathlib.Omega.{arith}
 use lib.Dec.{eqb}
 use lib.ListN.{length}
-use borrow.Author.Tests.{eqb-true, eqb-false, eq-eqb, ne-eqb}
+use borrow.Author.Tests.{eqb-true, eqb-false}
+use Rattle.rules.specs.declared.Group.{Group}
 use Rattle.rules.specs.Lists.{inRow}
+use Rattle.rules.specs.Schedule.{innerAt}
 use Rattle.rules.specs.Candidates.{Candidate, withRow, across, within, driven, candidatesOf}
 use Rattle.rules.specs.Shares.{Numbered, numbered}
 use Rattle.rules.specs.laws.Bools.{true-or-false}
 use Rattle.rules.specs.laws.Lists.{in-row, of-row, Once}
 
--- ---- complete: each two rows of sizes that make s are met, one way round
+-- ---- complete: each two rows of a driving size and its inner size are met, one way round
 -- X and Y are met, X as the driving set
 pub record Has (X Y : ℕ) (l : List Candidate) : Type 0 where
   pub one : Candidate
@@ -47,29 +48,21 @@ within-has D i (x ∷ xs) X Y (List·Memᴰ·tail m) (List·Memᴰ·head f) n = 
 within-has D i (x ∷ xs) X Y (List·Memᴰ·tail m) (List·Memᴰ·tail k) n =
     ⊎-elim (λ h. inl (has-right (withRow D i x 0 xs) (within D (suc i) xs) h)) (λ h. inr (has-right (withRow D i x 0 xs) (within D (suc i) xs) h)) (within-has D (suc i) xs X Y m k n)
 
-module _ (rows : ℕ → List ℕ) (s : ℕ) where
-  from-has : {X Y : ℕ} (d : ℕ) → 0 < d → d ≤ s / 2 → Has X Y (driven rows s d) → Has X Y (candidatesOf rows s)
+module _ (rows : ℕ → List ℕ) (group : Group) where
+  from-has : {X Y : ℕ} (d : ℕ) → 0 < d → d ≤ group .last → Has X Y (driven rows group d) → Has X Y (candidatesOf rows group)
   unfolding candidatesOf
-  from-has d l u h = record { one = h .one; met = in-row (driven rows s) (h .one) 1 (s / 2) d l (omega arith) (h .met); driving = h .driving; inner = h .inner }
+  from-has d l u h = record { one = h .one; met = in-row (driven rows group) (h .one) 1 (group .last) d l (omega arith) (h .met); driving = h .driving; inner = h .inner }
 
-  -- two different rows, of sizes d and e that make s
-  pub candidates-all : (d e X Y : ℕ) → 0 < d → 0 < e → d + e ≡ s → List·Memᴰ X (rows d) → List·Memᴰ Y (rows e) → (X ≡ Y → ⊥)
-      → Has X Y (candidatesOf rows s) ⊎ Has Y X (candidatesOf rows s)
+  -- two different rows, of driving size d and its inner size
+  pub candidates-all : (d X Y : ℕ) → 0 < d → d ≤ group .last → List·Memᴰ X (rows d) → List·Memᴰ Y (rows (innerAt group d)) → (X ≡ Y → ⊥) → Has X Y (candidatesOf rows group) ⊎ Has Y X (candidatesOf rows group)
   unfolding driven
-  candidates-all d e X Y pd pe w mx my n = go (decLt d e) (decLt e d)
+  candidates-all d X Y l u mx my n = go (true-or-false (eqb d (innerAt group d)))
     where
-      go : Dec (d < e) → Dec (e < d) → Has X Y (candidatesOf rows s) ⊎ Has Y X (candidatesOf rows s)
-      go (yes l) k =
-          let f : s - d ≡ e = omega arith in
-          inl (from-has d pd (omega arith) (rw (ne-eqb (d + d) s (λ z. omega arith), f) (across-has (length (rows d)) 0 (rows d) (rows e) X Y mx my)))
-      go (no g) (yes l) =
-          let f : s - e ≡ d = omega arith in
-          inr (from-has e pe (omega arith) (rw (ne-eqb (e + e) s (λ z. omega arith), f) (across-has (length (rows e)) 0 (rows e) (rows d) Y X my mx)))
-      go (no g) (no h) =
-          let f : e ≡ d = omega arith in
-          let z : d + d ≡ s = omega arith in
-          ⊎-elim (λ a. inl (from-has d pd (omega arith) (rw (eq-eqb (d + d) s z) a))) (λ a. inr (from-has d pd (omega arith) (rw (eq-eqb (d + d) s z) a)))
-          (within-has (length (rows d)) 0 (rows d) X Y mx (rw f at my) n)
+      go : (eqb d (innerAt group d) ≡ true) ⊎ (eqb d (innerAt group d) ≡ false) → Has X Y (candidatesOf rows group) ⊎ Has Y X (candidatesOf rows group)
+      go (inl e) =
+          ⊎-elim (λ a. inl (from-has d l u (rw e a))) (λ a. inr (from-has d l u (rw e a)))
+          (within-has (length (rows d)) 0 (rows d) X Y mx (rw (← eqb-true d (innerAt group d) e) at my) n)
+      go (inr e) = inl (from-has d l u (rw e (across-has (length (rows d)) 0 (rows d) (rows (innerAt group d)) X Y mx my)))
 
 -- ---- what stands behind a candidate: two rows, of lists xs and ys
 pub record Behind (xs ys : List ℕ) (c : Candidate) : Type 0 where
@@ -110,28 +103,26 @@ within-of D i (x ∷ xs) c e m = go (within-of D (suc i) xs c (omega arith)) (Li
     go ih (inl n) = let r = row-of D i x 0 xs c n in record { driving = List·Memᴰ·head (r .driving); inner = List·Memᴰ·tail (r .inner); row = omega (arith, r .row, r .rows) }
     go ih (inr n) = let r = ih n in record { driving = List·Memᴰ·tail (r .driving); inner = List·Memᴰ·tail (r .inner); row = r .row }
 
-module _ (rows : ℕ → List ℕ) (s : ℕ) where
-  -- a candidate's driving row is one of size d, its inner row one of size s - d
+module _ (rows : ℕ → List ℕ) (group : Group) where
+  -- a candidate's driving row is one of size d, its inner row one of the size that the group joins to it
   pub record Met (c : Candidate) : Type 0 where
     pub size : ℕ
     pub from-one : 1 ≤ size
-    pub to-half : size ≤ s / 2
-    pub behind : Behind (rows size) (rows (s - size)) c
+    pub to-last : size ≤ group .last
+    pub behind : Behind (rows size) (rows (innerAt group size)) c
 
-  behind-of : (d : ℕ) (c : Candidate) → 1 ≤ d → d ≤ s / 2 → List·Memᴰ c (driven rows s d) → Behind (rows d) (rows (s - d)) c
+  behind-of : (d : ℕ) (c : Candidate) → List·Memᴰ c (driven rows group d) → Behind (rows d) (rows (innerAt group d)) c
   unfolding driven
-  behind-of d c l u m = go (true-or-false (eqb (d + d) s)) m
+  behind-of d c m = go (true-or-false (eqb d (innerAt group d))) m
     where
-      go : (eqb (d + d) s ≡ true) ⊎ (eqb (d + d) s ≡ false) → List·Memᴰ c (cond (eqb (d + d) s) (within (length (rows d)) 0 (rows d)) (across (length (rows d)) 0 (rows d) (rows (s - d))))
-          → Behind (rows d) (rows (s - d)) c
-      go (inl e) n =
-          let f : s - d ≡ d = omega (arith, eqb-true (d + d) s e) in
-          rw f (within-of (length (rows d)) 0 (rows d) c (omega arith) (rw e at n))
-      go (inr e) n = across-of (length (rows d)) 0 (rows d) (rows (s - d)) c (omega arith) (rw e at n)
+      go : (eqb d (innerAt group d) ≡ true) ⊎ (eqb d (innerAt group d) ≡ false) → List·Memᴰ c (cond (eqb d (innerAt group d)) (within (length (rows d)) 0 (rows d)) (across (length (rows d)) 0 (rows d) (rows (innerAt group d))))
+          → Behind (rows d) (rows (innerAt group d)) c
+      go (inl e) n = rw (← eqb-true d (innerAt group d) e) (within-of (length (rows d)) 0 (rows d) c (omega arith) (rw e at n))
+      go (inr e) n = across-of (length (rows d)) 0 (rows d) (rows (innerAt group d)) c (omega arith) (rw e at n)
 
-  pub met-of : (c : Candidate) → List·Memᴰ c (candidatesOf rows s) → Met c
+  pub met-of : (c : Candidate) → List·Memᴰ c (candidatesOf rows group) → Met c
   unfolding candidatesOf
-  met-of c m = let r = of-row (driven rows s) c 1 (s / 2) m in record { size = r .0; from-one = r .1; to-half = omega (arith, r .2); behind = behind-of (r .0) c (r .1) (omega (arith, r .2)) (r .3) }
+  met-of c m = let r = of-row (driven rows group) c 1 (group .last) m in record { size = r .0; from-one = r .1; to-last = omega (arith, r .2); behind = behind-of (r .0) c (r .3) }
 
 -- ---- candidates with their numbers
 pub numbered-in : (n : ℕ) (cs : List Candidate) (c : Candidate) → List·Memᴰ c cs → (x : Numbered) × List·Memᴰ x (numbered n cs) × (x .candidate ≡ c)
@@ -205,41 +196,45 @@ within-apart D i (X ∷ xs) e o = apart-append (withRow D i X 0 xs) (within D (s
     cross c c′ m m′ (inl s) = o .0 (Memᴰ·cast (sym (row-of D i X 0 xs c m .driving) ∙ s .0) (within-of D (suc i) xs c′ (omega arith) m′ .driving))
     cross c c′ m m′ (inr s) = o .0 (Memᴰ·cast (sym (row-of D i X 0 xs c m .driving) ∙ s .0) (within-of D (suc i) xs c′ (omega arith) m′ .inner))
 
+-- the driving size is the smaller one
+unfoldable pub Rising : Group → Type 0
+Rising group = (d : ℕ) → 1 ≤ d → d ≤ group .last → d ≤ innerAt group d
+
 -- where each size's rows stand once and no set has two sizes
-module _ (rows : ℕ → List ℕ) (s : ℕ) (once : (k : ℕ) → Once (rows k)) (one : (j k Z : ℕ) → List·Memᴰ Z (rows j) → List·Memᴰ Z (rows k) → j ≡ k) where
-  driven-apart : (d : ℕ) → 1 ≤ d → d ≤ s / 2 → Apart (driven rows s d)
+module _ (rows : ℕ → List ℕ) (group : Group) (once : (k : ℕ) → Once (rows k)) (one : (j k Z : ℕ) → List·Memᴰ Z (rows j) → List·Memᴰ Z (rows k) → j ≡ k) (up : Rising group) where
+  driven-apart : (d : ℕ) → Apart (driven rows group d)
   unfolding driven
-  driven-apart d l u = go (true-or-false (eqb (d + d) s))
+  driven-apart d = go (true-or-false (eqb d (innerAt group d)))
     where
-      go : (eqb (d + d) s ≡ true) ⊎ (eqb (d + d) s ≡ false) → Apart (cond (eqb (d + d) s) (within (length (rows d)) 0 (rows d)) (across (length (rows d)) 0 (rows d) (rows (s - d))))
+      go : (eqb d (innerAt group d) ≡ true) ⊎ (eqb d (innerAt group d) ≡ false) → Apart (cond (eqb d (innerAt group d)) (within (length (rows d)) 0 (rows d)) (across (length (rows d)) 0 (rows d) (rows (innerAt group d))))
       go (inl e) = rw e (within-apart (length (rows d)) 0 (rows d) (omega arith) (once d))
-      go (inr e) = rw e (across-apart (length (rows d)) 0 (rows d) (rows (s - d)) (omega arith) (once d) (once (s - d))
-          (λ Z a b. eqb-false (d + d) s e (let f : d ≡ s - d = one d (s - d) Z a b in omega arith)))
+      go (inr e) = rw e (across-apart (length (rows d)) 0 (rows d) (rows (innerAt group d)) (omega arith) (once d) (once (innerAt group d)) (λ Z a b. eqb-false d (innerAt group d) e (one d (innerAt group d) Z a b)))
 
   -- a later driving size meets other pairs
-  later : (d e : ℕ) (c c′ : Candidate) → 1 ≤ d → d < e → e ≤ s / 2 → List·Memᴰ c (driven rows s d) → List·Memᴰ c′ (driven rows s e) → SameSets c c′ → ⊥
+  later : (d e : ℕ) (c c′ : Candidate) → 1 ≤ d → d < e → e ≤ group .last → List·Memᴰ c (driven rows group d) → List·Memᴰ c′ (driven rows group e) → SameSets c c′ → ⊥
+  unfolding Rising
   later d e c c′ l u v m m′ p = differ p
     where
-      b : Behind (rows d) (rows (s - d)) c
-      b = behind-of rows s d c l (omega arith) m
+      b : Behind (rows d) (rows (innerAt group d)) c
+      b = behind-of rows group d c m
 
-      b′ : Behind (rows e) (rows (s - e)) c′
-      b′ = behind-of rows s e c′ (omega arith) v m′
+      b′ : Behind (rows e) (rows (innerAt group e)) c′
+      b′ = behind-of rows group e c′ m′
 
       differ : SameSets c c′ → ⊥
       differ (inl z) = let f : d ≡ e = one d e (c .driving) (b .driving) (Memᴰ·cast (z .0) (b′ .driving)) in omega arith
-      differ (inr z) = let f : d ≡ s - e = one d (s - e) (c .driving) (b .driving) (Memᴰ·cast (z .0) (b′ .inner)) in omega arith
+      differ (inr z) = let f : d ≡ innerAt group e = one d (innerAt group e) (c .driving) (b .driving) (Memᴰ·cast (z .0) (b′ .inner)) in omega (arith, up e (omega arith) v)
 
-  from-apart : (d n : ℕ) → 1 ≤ d → d + n ≤ s / 2 + 1 → Apart (inRow (driven rows s) d n)
+  from-apart : (d n : ℕ) → 1 ≤ d → d + n ≤ group .last + 1 → Apart (inRow (driven rows group) d n)
   unfolding inRow Apart
   from-apart d zero l u = tt
   from-apart d (suc n) l u =
-      apart-append (driven rows s d) (inRow (driven rows s) (suc d) n) (driven-apart d l (omega arith)) (from-apart (suc d) n (omega arith) (omega arith))
-      (λ c c′ m m′ p. let r = of-row (driven rows s) c′ (suc d) n m′ in later d (r .0) c c′ l (r .1) (omega (arith, r .2)) m (r .3) p)
+      apart-append (driven rows group d) (inRow (driven rows group) (suc d) n) (driven-apart d) (from-apart (suc d) n (omega arith) (omega arith))
+      (λ c c′ m m′ p. let r = of-row (driven rows group) c′ (suc d) n m′ in later d (r .0) c c′ l (r .1) (omega (arith, r .2)) m (r .3) p)
 
-  pub candidates-apart : Apart (candidatesOf rows s)
+  pub candidates-apart : Apart (candidatesOf rows group)
   unfolding candidatesOf
-  candidates-apart = from-apart 1 (s / 2) (omega arith) (omega arith)
+  candidates-apart = from-apart 1 (group .last) (omega arith) (omega arith)
 
 -- so a pair of sets has one number
 pub numbered-pair : (n : ℕ) (cs : List Candidate) → Apart cs → (x y : Numbered) → List·Memᴰ x (numbered n cs) → List·Memᴰ y (numbered n cs) → SameSets (x .candidate) (y .candidate) → x ≡ y

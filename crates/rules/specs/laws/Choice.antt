@@ -1,15 +1,11 @@
 -- Choices for a memo row in the order of 01's tie rule, and the best of a set of them. The set is a predicate: no list and no order of offering.
 use mathlib.Core.Path.{_≡_, sym}
 use mathlib.Core.Logic.{_⊎_, inl, inr}
-use Prim.Native.Nat.{ℕ, _≤_, _<_}
+use Prim.Native.Nat.{_≤_, _<_}
 use native.Mathlib.Nat.{le-antisymm, le-refl}
 use native.Mathlib.Decide.{decLt}
 use native.Mathlib.Omega.{arith}
-
-pub record Choice : Type 0 where
-  pub cost : ℕ
-  pub outer : ℕ
-  pub method : ℕ
+use Rattle.rules.specs.Offers.{Choice}
 
 -- k stands no later than k′: less cost, then least outer set number, then least method
 pub record NoLater (k k′ : Choice) : Type 0 where

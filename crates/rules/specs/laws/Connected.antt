@@ -1,15 +1,19 @@
 -- Connected sets: they join, they split, and each has a tree.
 use mathlib.Core.Path.{_≡_, refl, sym, ap, _∙_}
 use mathlib.Core.Logic.{_⊎_, inl, inr, ⊎-elim, ⊎-swap}
+use mathlib.Core.Bool.{true}
 use Prim.Native.Nat.{ℕ, zero, suc, _+_, _-_, _≤_, _<_}
 use native.Mathlib.Decide.{decLt}
 use native.Mathlib.Omega.{arith}
 use Rattle.rules.specs.Sets.{Splits, holds, single, Disjoint, size}
 use Rattle.rules.specs.laws.Sets.{holds-apart, holds-single, holds-single-only, holds-out, holds-some, holds-pos, size-pos, size-pow, size-zero, splits-inner, splits-outer, splits-size, union-of, disjoint-sym}
 use native.Mathlib.Nat.{le-refl}
+use borrow.Author.Tests.{eqb-true, eq-eqb}
+use Rattle.rules.specs.declared.Shape.{Shape}
+use Rattle.rules.specs.declared.Shape.the-variants.{Bushy, Single}
 use Rattle.rules.specs.Query.{Graph, Query, IsTable, IsMethod, Linked, Between}
 use Rattle.rules.specs.Connected.{Walk, here, step, Connected}
-use Rattle.rules.specs.Trees.{Tree, scan, join, tablesOf, Joinable, Valid}
+use Rattle.rules.specs.Trees.{Tree, scan, join, tablesOf, Joinable, fits, Inner, Valid}
 
 pub linked-sym : {g : Graph} {a b : ℕ} → Linked g a b → Linked g b a
 linked-sym l = record { edge = l .edge; known = l .known; joins = ⊎-swap (l .joins) }
@@ -202,7 +206,23 @@ one-table g S l c = (a, c .known a ((holds-some S (c .some)) .1), omega (arith, 
     none (yes h) = absurd (omega (arith, splits-size first, size-pow (a - 1), size-pos (o .0) h))
     none (no z) = omega arith
 
--- so each connected set has a tree, given a method
+-- ---- shapes
+-- a single table is an inner part in each shape
+pub fits-one : (shape : Shape) (n : ℕ) → n ≡ 1 → fits shape n ≡ true
+unfolding fits
+fits-one Bushy n e = refl
+fits-one Single n e = eq-eqb n 1 e
+
+pub single-fits : (q : Query) (t : ℕ) → Inner q (single t)
+single-fits q t = fits-one (q .shape) (size (single t)) (size-pow (t - 1))
+
+-- and where a part is one, a smaller one is
+pub fits-less : (shape : Shape) (m n : ℕ) → 1 ≤ m → m ≤ n → fits shape n ≡ true → fits shape m ≡ true
+unfolding fits
+fits-less Bushy m n p l e = refl
+fits-less Single m n p l e = eq-eqb m 1 (omega (arith, eqb-true n 1 e))
+
+-- so each connected set has a tree of the query's shape, given a method
 unfoldable pub Made : Query → ℕ → Type 0
 Made q S = (t : Tree) × Valid q t × (tablesOf t ≡ S)
 
@@ -220,7 +240,7 @@ module _ (q : Query) (me : IsMethod q 1) where
       go (yes h) ih =
           let a = connected-split (q .graph) S c h in
           let x = ih (a .part) (omega (arith, splits-size (a .splits), size-pow (a .last - 1))) (a .connected) in
-          (join (x .0) (scan (a .last)) 1, (x .1, a .table, record { apart = rw (x .2) (a .splits .apart); between = rw (x .2) (a .between) }, me), rw (x .2) (a .splits .whole))
+          (join (x .0) (scan (a .last)) 1, (x .1, a .table, record { apart = rw (x .2) (a .splits .apart); between = rw (x .2) (a .between) }, me, single-fits q (a .last)), rw (x .2) (a .splits .whole))
       go (no z) ih = tree-one S (omega arith) c
 
 -- ---- how a program tells: a part that is connected, and has no edge to the rest

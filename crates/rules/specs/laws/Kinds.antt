@@ -1,6 +1,9 @@
 -- What the constructors answer, test by test; scheme numbers, there and back.
-use mathlib.Core.Path.{_≡_, refl}
-use mathlib.Core.Bool.{true, false}
+use mathlib.Core.Path.{_≡_, refl, sym, ap}
+use mathlib.Core.Bool.{Bool, true, false, cond}
+use native.Mathlib.Omega.{arith}
+use Rattle.rules.specs.declared.Crew.{Crew}
+use Rattle.rules.specs.declared.NewScheme.{NewScheme}
 use Prim.Native.Nat.{ℕ, zero, suc, _≤_, _<_}
 use Rattle.rules.specs.declared.Scheme.{Scheme}
 use Rattle.rules.specs.declared.Scheme.the-variants.{CutCandidates, CutRows, DealRows, DealInner}
@@ -11,7 +14,7 @@ use Rattle.rules.specs.declared.NewEdge.the-variants.{Good as GoodEdge, 
 use Rattle.rules.specs.declared.NewCrew.the-variants.{Good as GoodCrew, Refused}
 use borrow.Author.Tests.{eq-eqb, ne-eqb, le-leb, lt-leb}
 use Rattle.rules.specs.Limits.{inRange, maxRows, maxScan, maxDivisor, maxFixed, maxCoefficient, maxWorkers}
-use Rattle.rules.specs.Kinds.{schemeOf, schemeNumber, newTable, newEdge, newMethod, newCrew}
+use Rattle.rules.specs.Kinds.{schemeOf, schemeNumber, newTable, newEdge, newMethod, crewWith, newCrew}
 
 pub scheme-number : (s : Scheme) → schemeOf (schemeNumber s) ≡ Good s
 scheme-number CutCandidates = refl
@@ -50,6 +53,15 @@ module _ (workers scheme : ℕ) where
 
   pub good-crew : (s : Scheme) → inRange 1 maxWorkers workers ≡ true → schemeOf scheme ≡ Good s → GoodCrew (record { workers = workers; scheme = s }) ≡ newCrew workers scheme
   good-crew s w e = rw (w, e)
+
+  -- a crew has the workers that were asked for
+  pub crew-workers : {c : Crew} → newCrew workers scheme ≡ GoodCrew c → c .workers ≡ workers
+  crew-workers {c} = go (inRange 1 maxWorkers workers) (schemeOf scheme)
+    where
+      go : (b : Bool) (s : NewScheme) → cond b (crewWith workers s) Refused ≡ GoodCrew c → c .workers ≡ workers
+      go true (Good s) e = let f : record { workers = workers; scheme = s } ≡ c = cc in ap (λ (x : Crew). x .workers) (sym f)
+      go true Unknown e = let z : _≡_ {A = ℕ} 0 1 = cc in absurd (omega arith)
+      go false s e = let z : _≡_ {A = ℕ} 0 1 = cc in absurd (omega arith)
 
   pub bad-scheme : inRange 1 maxWorkers workers ≡ true → schemeOf scheme ≡ Unknown → Refused ≡ newCrew workers scheme
   bad-scheme w e = rw (w, e)

@@ -4,13 +4,13 @@ use Prim.Native.Nat.{ℕ, zero, suc, _-_, _≤_, _<_}
 use native.Mathlib.Nat.{le-refl}
 use native.Mathlib.Decide.{decLt}
 use native.Mathlib.Omega.{arith}
-use Rattle.rules.specs.laws.Choice.{Choice, Best}
+use Rattle.rules.specs.Offers.{Choice, Pair}
+use Rattle.rules.specs.laws.Choice.{Best}
 use Rattle.rules.specs.Sets.{size, single}
 use Rattle.rules.specs.laws.Sets.{holds-single, holds-single-only, size-sum, size-pow, size-pos}
 use Rattle.rules.specs.Query.{Query, IsTable, IsMethod, at}
 use Rattle.rules.specs.Connected.{Connected}
 use Rattle.rules.specs.Trees.{Tree, scan, join, tablesOf, Valid, costOf, Least, Pick}
-use Rattle.rules.specs.Log.{Pair}
 use Rattle.rules.specs.laws.Connected.{one-table}
 use Rattle.rules.specs.laws.Bellman.{Offer, bellman-least, bellman-pick, tablesOf-pos}
 use Rattle.rules.specs.laws.Handed.{Handed, Complete, row-final}
@@ -32,7 +32,7 @@ module _ (q : Query) (best : ℕ → ℕ) (row : ℕ → Choice) (P : Pair → T
   -- what the turns leave: the rows of one table, and of more
   pub record Memo : Type 0 where
     pub one : (t : ℕ) → IsTable (q .graph) t → best (single t) ≡ at (q .scans) t
-    pub complete : (S : ℕ) → Connected (q .graph) S → 2 ≤ size S → Complete (q .graph) P S
+    pub complete : (S : ℕ) → Connected (q .graph) S → 2 ≤ size S → Complete q P S
     pub best-row : (S : ℕ) → Connected (q .graph) S → 2 ≤ size S → Best (Handed q best P S) (row S)
     pub cost-row : (S : ℕ) → Connected (q .graph) S → 2 ≤ size S → row S .cost ≡ best S
 

@@ -9,35 +9,37 @@ use lib.Count.{ones, onesIn}
 use lib.Dec.{eqb}
 use lib.ListN.{length, getD, take, length-take}
 use borrow.Author.Tests.{eq-eqb, ne-eqb, le-leb}
-use Rattle.rules.specs.declared.Scheme.{Scheme}
-use Rattle.rules.specs.declared.NewScheme.{NewScheme}
-use Rattle.rules.specs.declared.NewScheme.the-variants.{Good, Unknown}
-use Rattle.rules.specs.Kinds.{schemeOf}
+use Rattle.rules.specs.declared.Crew.{Crew}
+use Rattle.rules.specs.declared.NewCrew.{NewCrew}
+use Rattle.rules.specs.declared.NewCrew.the-variants.{Good, Refused as NoCrew}
+use Rattle.rules.specs.Kinds.{newCrew}
 use Rattle.rules.specs.Lists.{over, keep, inRow}
 use Rattle.rules.specs.Sets.{size, full, holds, number, tablesFrom, tables}
 use Rattle.rules.specs.Query.{Query, IsMethod, tableCount}
 use Rattle.rules.specs.Connected.{Connected}
 use Rattle.rules.specs.Estimate.{joinsAt, divided, byEdges, byLower, withTable, running, estimate}
-use Rattle.rules.specs.Trees.{Least, price}
+use Rattle.rules.specs.Trees.{fits, Inner, Least, price}
+use Rattle.rules.specs.Offers.{Pair, union, ways, Choice}
 use Rattle.rules.specs.Rows.{combos, sequences, rowsOf, memo}
 use Rattle.rules.specs.Skips.{skipFrom, vectorsFrom, vectors, skips}
 use Rattle.rules.specs.Candidates.{withRow, across, within, driven, candidatesOf, candidates, joinable}
 use Rattle.rules.specs.Shares.{Numbered, numbered, cut, inCut, owns, met, share, queue}
-use Rattle.rules.specs.Turns.{Hand, Sizes, only}
-use Rattle.rules.specs.Log.{Pair, pairOf, union, Stands}
+use Rattle.rules.specs.Schedule.{innerAt, drivings, bySize}
+use Rattle.rules.specs.Turns.{Hand, Groups, only}
+use Rattle.rules.specs.Log.{pairOf, Stands}
 use Rattle.rules.specs.Refusals.{Input, refuse, firstBad, firstOf, allAre, allSame, groups, badTable, badMethod, joinedBelow, repeats, edgeOr, badEdge, isRefused, badTurn, checksOf, checks, rooms, verdict}
 use Rattle.rules.specs.Checked.{Sound, Accepted}
-use Rattle.rules.specs.Answers.{Outcome, each, perWorker, refusal, Refused, Spared, Row, Filled, shown, upTo, Logged, Counted, Given, Planned}
+use Rattle.rules.specs.Answers.{Outcome, each, perWorker, refusal, Refused, Spared, Row, Filled, scheduleOf, queuesOf, shown, upTo, Logged, Counted, Given, Planned}
 use Rattle.rules.specs.laws.Bools.{find}
 use Rattle.rules.specs.laws.Decide.{between?, connected?}
 use Rattle.rules.specs.laws.Lists.{at-in, at-map, length-map, over-length, over-spare, over-at}
 use Rattle.rules.specs.laws.Rows.{memo-only, size-count}
-use Rattle.rules.specs.laws.Choice.{Choice}
 use Rattle.rules.specs.laws.Handed.{JoinablePair, row-stands}
-use Rattle.rules.specs.laws.Reference.{sooner, better, bestOf, byMethod, splitsAt, offersBelow, offersOf, rowOf, scanRow, row-least, row-pick, pickOf, offersFor, handed-best}
-use Rattle.rules.specs.laws.Turns.{Entries, sizes-exist}
-use Rattle.rules.specs.laws.Complete.{plan-joinable}
-use Rattle.rules.specs.laws.Refusals.{accepted}
+use Rattle.rules.specs.laws.Reference.{sooner, better, bestOf, byMethod, splitsAt, offersBelow, offersOf, rowOf, scanRow, row-least, row-pick, pickOf, offersBy, offersFor, handed-best}
+use Rattle.rules.specs.laws.Turns.{Entries, groups-exist}
+use Rattle.rules.specs.laws.Schedule.{by-size}
+use Rattle.rules.specs.laws.Final.{plan-joinable, plan-shaped}
+use Rattle.rules.specs.laws.Refusals.{accepted, crew-named}
 
 -- ---- what computes
 -- the row of S
@@ -50,8 +52,8 @@ unfolding rowAt
 bestAt q S = rowAt q S .cost
 
 -- what the turns hand
-unfoldable pub handsOf : Query → Scheme → ℕ → List ℕ → List (Hand Numbered)
-handsOf q scheme m turns = sizes-exist m (queue (q .graph) scheme m) 2 (tableCount (q .graph) - 1) turns .0
+unfoldable pub handsOf : Input → Crew → List (Hand Numbered)
+handsOf i crew = groups-exist (crew .workers) (queuesOf i crew) 1 (tableCount (i .query .graph) - 1) (i .turns) .0
 
 -- the set of the pair of turn j
 abbrev pub resultAt : List (Hand Numbered) → ℕ → ℕ
@@ -61,11 +63,11 @@ resultAt h j = getD (map (λ (x : Hand Numbered). union (pairOf x)) h) j 0
 unfoldable pub standing : Query → List (Hand Numbered) → ℕ → ℕ
 standing q h j = pickOf (offersFor q (bestAt q) (upTo h j) (resultAt h j)) .cost
 
-unfoldable pub planOf : Input → Scheme → Outcome
-planOf i scheme =
+unfoldable pub planOf : Input → Crew → Outcome
+planOf i crew =
     let q = i .query in
     let lent = i .lent in
-    let h = handsOf q scheme (i .workers) (i .turns) in
+    let h = handsOf i crew in
     let log = shown lent h in
     record {
       answer = record {
@@ -94,25 +96,25 @@ planOf i scheme =
 unfoldable pub refusedOf : Input → Outcome
 refusedOf i = record { answer = refusal (verdict i); left = i .lent }
 
-unfoldable pub planWith : Input → NewScheme → Outcome
-planWith i (Good scheme) = planOf i scheme
-planWith i Unknown = refusedOf i
+unfoldable pub planWith : Input → NewCrew → Outcome
+planWith i (Good crew) = planOf i crew
+planWith i NoCrew = refusedOf i
 
 -- the outcome of an input
 unfoldable pub outcome : Input → Outcome
-outcome i = cond (eqb (verdict i .number) 0) (planWith i (schemeOf (i .scheme))) (refusedOf i)
+outcome i = cond (eqb (verdict i .number) 0) (planWith i (newCrew (i .workers) (i .scheme))) (refusedOf i)
 
 -- the same, with every definition on its way open, so that it computes at an input that is written out
 unfoldable pub computed : Input → Outcome
 unfolding outcome planWith refusedOf planOf standing handsOf bestAt rowAt each
     holds number tablesFrom tables keep inRow ones onesIn
-    joinsAt divided byEdges byLower withTable running estimate price
+    joinsAt divided byEdges byLower withTable running estimate price fits ways
     combos sequences rowsOf memo skipFrom vectorsFrom vectors skips
-    withRow across within driven candidatesOf candidates joinable
-    numbered cut inCut owns met share queue only sizes-exist
+    innerAt drivings bySize withRow across within driven candidatesOf candidates joinable
+    numbered cut inCut owns met share queue only groups-exist
     refuse firstBad firstOf allAre allSame groups badTable badMethod joinedBelow repeats edgeOr badEdge isRefused badTurn checksOf checks rooms verdict
     connected? between? find
-    sooner better bestOf byMethod splitsAt offersBelow pickOf scanRow rowOf offersOf offersFor
+    sooner better bestOf byMethod splitsAt offersBelow pickOf scanRow rowOf offersBy offersOf offersFor
 computed i = outcome i
 
 -- ---- and that it is right
@@ -174,9 +176,9 @@ module _ (i : Input) (good : Accepted i) where
     more = λ two. row-pick q (method-one q sound) (tableCount (q .graph)) S (omega (arith, size-count (q .graph) S c)) c two;
   }
 
-  filled : (scheme : Scheme) → Filled q (i .lent) (planOf i scheme .left)
+  filled : (crew : Crew) → Filled q (i .lent) (planOf i crew .left)
   unfolding planOf q
-  filled scheme = record {
+  filled crew = record {
     sets = refl;
     estimates = refl;
     rows = λ j l. rw (at-row (bestAt q) (i .lent .costs) j l, at-row (λ (S : ℕ). rowAt q S .outer) (i .lent .outers) j l, at-row (λ (S : ℕ). rowAt q S .method) (i .lent .methods) j l)
@@ -194,26 +196,30 @@ module _ (i : Input) (good : Accepted i) where
       column f l e = written (length (memo (q .graph))) (map f (memo (q .graph))) l (length-map f (memo (q .graph))) (omega (arith, good .rows))
 
   -- the turns
-  module _ (scheme : Scheme) where
+  module _ (crew : Crew) (worker : 0 < crew .workers) (entries : Entries (crew .workers) (i .turns)) where
     handed : List (Hand Numbered)
-    handed = handsOf q scheme (i .workers) (i .turns)
+    handed = handsOf i crew
 
-    handed-sizes : Sizes (i .workers) (queue (q .graph) scheme (i .workers)) 2 (tableCount (q .graph) - 1) (i .turns) handed
-    unfolding handsOf handed
-    handed-sizes = sizes-exist (i .workers) (queue (q .graph) scheme (i .workers)) 2 (tableCount (q .graph) - 1) (i .turns) .1
+    handed-groups : Groups (crew .workers) (queuesOf i crew) 1 (tableCount (q .graph) - 1) (i .turns) handed
+    unfolding handsOf handed q
+    handed-groups = groups-exist (crew .workers) (queuesOf i crew) 1 (tableCount (q .graph) - 1) (i .turns) .1
 
-    handed-joinable : (p : Pair) → List·Memᴰ p (map pairOf handed) → JoinablePair (q .graph) p
-    handed-joinable p m = plan-joinable (q .graph) scheme (i .workers) (good .checked .crew .some-worker) (i .turns) handed (entries-of (i .workers) (i .turns) (good .checked .turns)) handed-sizes p m
+    handed-joinable : (p : Pair) → List·Memᴰ p (map pairOf handed) → JoinablePair (q .graph) p × Inner q (p .driving)
+    unfolding q
+    handed-joinable p m =
+        let N = tableCount (q .graph) in
+        let s = by-size (q .shape) N in
+        (plan-joinable q crew worker (N - 1) (scheduleOf i) s (i .turns) handed entries handed-groups p m, plan-shaped q crew worker (N - 1) (scheduleOf i) s (i .turns) handed entries handed-groups p m)
 
     stands : (j : ℕ) → j < length handed → Stands q (upTo handed j) (resultAt handed j) (standing q handed j)
     unfolding standing
     stands j l =
         let p = pair-at handed j l in
         row-stands q (bestAt q) (upTo handed j)
-        (λ p′ m. let c = handed-joinable p′ (up-to-in handed (suc j) p′ m) in (best-least q sound (p′ .driving) (c .driving-conn), best-least q sound (p′ .inner) (c .inner-conn)))
-        (handed-best q (bestAt q) (method-one q sound) (upTo handed j) (resultAt handed j) (p .0) (p .1) (p .2))
+        (λ p′ m. let c = handed-joinable p′ (up-to-in handed (suc j) p′ m) .0 in (best-least q sound (p′ .driving) (c .driving-conn), best-least q sound (p′ .inner) (c .inner-conn)))
+        (handed-best q (bestAt q) (method-one q sound) (upTo handed j) (resultAt handed j) (p .0) (p .1) (p .2) (handed-joinable (p .0) (up-to-in handed (suc j) (p .0) (p .1)) .1))
 
-    logged : Logged q handed (i .lent) (planOf i scheme .left)
+    logged : Logged q handed (i .lent) (planOf i crew .left)
     unfolding planOf q handed
     logged = record {
       workers = refl;
@@ -227,16 +233,16 @@ module _ (i : Input) (good : Accepted i) where
         n : ℕ
         n = length (shown (i .lent) handed)
 
-    counted : Counted q handed (planOf i scheme .answer)
+    counted : Counted q handed (planOf i crew .answer)
     unfolding planOf q handed
     counted = record { refusal = refl; place = refl; best = best-least q sound (full (tableCount (q .graph))) (good .checked .sound .connected); rows = refl; cells = refl; pairs = refl; counts = refl }
 
-    plan-given : schemeOf (i .scheme) ≡ Good scheme → Given i (planOf i scheme)
+    plan-given : newCrew (i .workers) (i .scheme) ≡ Good crew → Given i (planOf i crew)
     unfolding q
     plan-given e = record {
       handed = handed;
-      turns = record { scheme = scheme; named = e; sizes = handed-sizes };
-      memory = filled scheme;
+      turns = record { crew = crew; named = e; groups = handed-groups };
+      memory = filled crew;
       log = logged;
       answer = counted;
     }
@@ -246,10 +252,11 @@ pub outcome-planned : (i : Input) → Planned i (outcome i)
 unfolding outcome
 outcome-planned i = record { given = given; refused = refused }
   where
-    given : verdict i .number ≡ 0 → Given i (cond (eqb (verdict i .number) 0) (planWith i (schemeOf (i .scheme))) (refusedOf i))
+    given : verdict i .number ≡ 0 → Given i (cond (eqb (verdict i .number) 0) (planWith i (newCrew (i .workers) (i .scheme))) (refusedOf i))
     given e =
         let a = accepted i e in
-        rw (eq-eqb (verdict i .number) 0 e, a .checked .crew .is-named) (unfold planWith in (plan-given i a (a .checked .crew .named) (a .checked .crew .is-named)))
+        let c = crew-named (a .checked .crew) in
+        rw (eq-eqb (verdict i .number) 0 e, c) (unfold planWith in (plan-given i a (record { workers = i .workers; scheme = a .checked .crew .named }) (a .checked .crew .some-worker) (entries-of (i .workers) (i .turns) (a .checked .turns)) c))
 
-    refused : 0 < verdict i .number → Refused i (cond (eqb (verdict i .number) 0) (planWith i (schemeOf (i .scheme))) (refusedOf i))
+    refused : 0 < verdict i .number → Refused i (cond (eqb (verdict i .number) 0) (planWith i (newCrew (i .workers) (i .scheme))) (refusedOf i))
     refused l = rw (ne-eqb (verdict i .number) 0 (λ e. omega arith)) (unfold refusedOf in (record { answer = refl; lent = refl }))

@@ -4,11 +4,13 @@ use mathlib.Core.List.{List·Memᴰ}
 use Prim.Native.Nat.{ℕ, zero, suc, _+_, _-_, _^_, _≤_, _<_}
 use native.Mathlib.Decide.{decLt}
 use native.Mathlib.Omega.{arith}
+use borrow.Author.Tests.{eqb-true}
+use Rattle.rules.specs.declared.Shape.the-variants.{Single}
 use Rattle.rules.specs.Sets.{Disjoint, size, single}
 use Rattle.rules.specs.Query.{Query, IsTable, tableCount}
 use Rattle.rules.specs.Connected.{Connected}
 use Rattle.rules.specs.Rows.{memo}
-use Rattle.rules.specs.Trees.{Tree, scan, join, tablesOf, Joinable, Valid, price, costOf, Least, Reaches, Pick, Picked}
+use Rattle.rules.specs.Trees.{Tree, scan, join, tablesOf, Joinable, fits, Inner, Valid, price, costOf, Least, Reaches, Pick, Picked}
 use Rattle.rules.specs.laws.Sets.{size-sum, size-pow, size-pos, holds-single, holds-single-only}
 use Rattle.rules.specs.laws.Connected.{connected-tree, one-table}
 use Rattle.rules.specs.laws.Rows.{below-all, memo-all}
@@ -22,11 +24,14 @@ inner-is r = omega (arith, r .whole)
 picked-joinable : {q : Query} {x y m : ℕ} → Reaches q (x + y) x m → Joinable (q .graph) x y
 picked-joinable {q} {x} r = subst (λ (z : ℕ). Joinable (q .graph) x z) (inner-is r) (r .joinable)
 
+picked-shaped : {q : Query} {x m : ℕ} (y : ℕ) → Reaches q (x + y) x m → Inner q y
+picked-shaped {q} y r = subst (λ (z : ℕ). Inner q z) (inner-is r) (r .shaped)
+
 -- ---- it is a tree of the query
 pub picked-valid : (q : Query) (t : Tree) → Picked q t → Valid q t
 unfolding Picked Valid
 picked-valid q (scan t) p = p
-picked-valid q (join x y m) p = (picked-valid q x (p .0), picked-valid q y (p .1), picked-joinable (p .2 .among), p .2 .among .method)
+picked-valid q (join x y m) p = (picked-valid q x (p .0), picked-valid q y (p .1), picked-joinable (p .2 .among), p .2 .among .method, picked-shaped (tablesOf y) (p .2 .among))
 
 pub picked-parts : (q : Query) (x y : Tree) (m : ℕ) → Picked q (join x y m) → Disjoint (tablesOf x) (tablesOf y)
 unfolding Picked
@@ -59,6 +64,14 @@ unfolding tablesOf Valid
 scan-only q t (scan v) k w e = ap scan (holds-single-only v t (w .from-one) (rw e (holds-single t (k .from-one))))
 scan-only q t (join x y m) k w e =
     absurd (omega (arith, ap size e, size-pow (t - 1), size-sum (tablesOf x) (tablesOf y) (w .2 .apart), size-pos (tablesOf x) (tablesOf-pos x), size-pos (tablesOf y) (tablesOf-pos y)))
+
+-- R-2's second shape in its own words: the inner part of each join is a scan
+pub single-inner : (q : Query) → q .shape ≡ Single → (x y : Tree) (m : ℕ) → Valid q (join x y m) → (t : ℕ) × (y ≡ scan t)
+unfolding Valid fits
+single-inner q e x y m v =
+    let one : size (tablesOf y) ≡ 1 = eqb-true (size (tablesOf y)) 1 (rw e at (v .4)) in
+    let o = one-table (q .graph) (tablesOf y) (omega arith) (connected-tree q y (v .1)) in
+    (o .0, scan-only q (o .0) y (o .1) (v .1) (sym (o .2)))
 
 pub picked-unique : (q : Query) (t u : Tree) → Picked q t → Picked q u → tablesOf t ≡ tablesOf u → t ≡ u
 unfolding Picked tablesOf

@@ -14,15 +14,16 @@ use Rattle.rules.specs.Lists.{isYes}
 use Rattle.rules.specs.Sets.{size, single, holds, has}
 use Rattle.rules.specs.Query.{Query, IsMethod, tableCount, methodCount, at}
 use Rattle.rules.specs.Connected.{Connected}
-use Rattle.rules.specs.Trees.{price, Least, Pick}
-use Rattle.rules.specs.Log.{Pair, union}
+use Rattle.rules.specs.Trees.{price, fits, Inner, Least, Pick}
+use Rattle.rules.specs.Offers.{Pair, union, Way, back, ways, Choice, Priced, joinCost, Offers}
 use Rattle.rules.specs.laws.Bools.{true-or-false, and-true-l, and-true-r, yes-true, true-yes, find, find-some, find-none}
 use Rattle.rules.specs.laws.Sets.{holds-single, holds-single-only}
-use Rattle.rules.specs.laws.Connected.{connected-single, connected-split, one-table}
+use Rattle.rules.specs.laws.Connected.{connected-single, connected-split, one-table, single-fits}
 use Rattle.rules.specs.laws.Decide.{connected?, between?}
-use Rattle.rules.specs.laws.Choice.{Choice, NoLater, Best, no-later-trans, no-later-refl, best-same, same}
+use Rattle.rules.specs.laws.Choice.{NoLater, Best, no-later-trans, no-later-refl, best-same, same}
 use Rattle.rules.specs.laws.Bellman.{Offer, bellman-least, bellman-pick}
-use Rattle.rules.specs.laws.Handed.{among, Priced, Offers, Handed}
+use Rattle.rules.specs.laws.Handed.{among, Handed}
+use Rattle.rules.specs.laws.Ways.{back-in}
 use Rattle.rules.specs.laws.Memo.{one-least}
 
 -- ---- the order, as a test
@@ -31,6 +32,10 @@ sooner a b = ltb (a .cost) (b .cost) || (eqb (a .cost) (b .cost) && (ltb (a .out
 
 unfoldable pub better : Choice → Choice → Choice
 better a b = cond (sooner a b) a b
+
+-- what a row keeps of what it holds and a new choice: without an outer set it holds nothing yet
+abbrev pub kept : Choice → Choice → Choice
+kept old new = cond (eqb (old .outer) 0) new (better old new)
 
 module _ (a b : Choice) where
   -- the tests, one by one, as one of the two orders
@@ -101,7 +106,7 @@ module _ (q : Query) (best : ℕ → ℕ) where
   byMethod X Y (suc m) = record { cost = best X + best Y + price q X Y (suc m); outer = X; method = suc m } ∷ byMethod X Y m
 
   unfoldable pub splitsAt : ℕ → ℕ → Bool
-  splitsAt S X = isYes (connected? (q .graph) X) && (isYes (connected? (q .graph) (S - X)) && (eqb (bitAnd X (S - X)) 0 && isYes (between? (q .graph) X (S - X))))
+  splitsAt S X = isYes (connected? (q .graph) X) && (isYes (connected? (q .graph) (S - X)) && (fits (q .shape) (size (S - X)) && (eqb (bitAnd X (S - X)) 0 && isYes (between? (q .graph) X (S - X)))))
 
   unfoldable pub offersBelow : ℕ → ℕ → List Choice
   offersBelow S zero = []
@@ -139,7 +144,7 @@ module _ (q : Query) (best : ℕ → ℕ) where
       e = omega (arith, o .whole)
 
       test : splitsAt S X ≡ true
-      test = rw (e, true-yes (connected? (q .graph) X) (o .outer-conn), true-yes (connected? (q .graph) (o .other)) (o .inner-conn), eq-eqb (bitAnd X (o .other)) 0 (o .joinable .apart), true-yes (between? (q .graph) X (o .other)) (o .joinable .between))
+      test = rw (e, true-yes (connected? (q .graph) X) (o .outer-conn), true-yes (connected? (q .graph) (o .other)) (o .inner-conn), o .shaped, eq-eqb (bitAnd X (o .other)) 0 (o .joinable .apart), true-yes (between? (q .graph) X (o .other)) (o .joinable .between))
 
       go : Dec (k .outer ≡ n) → (k .outer < n → List·Memᴰ k (offersBelow S n)) → List·Memᴰ k (offersBelow S (suc n))
       go (yes p) ih =
@@ -159,6 +164,9 @@ module _ (q : Query) (best : ℕ → ℕ) where
       t₂ : Bool
       t₂ = isYes (connected? (q .graph) (S - n))
 
+      t₅ : Bool
+      t₅ = fits (q .shape) (size (S - n))
+
       t₃ : Bool
       t₃ = eqb (bitAnd n (S - n)) 0
 
@@ -169,12 +177,14 @@ module _ (q : Query) (best : ℕ → ℕ) where
       made t h =
           let r = method-of n (S - n) (methodCount q) k h in
           let e = r .0 in
-          let t′ = and-true-r t₁ (t₂ && (t₃ && t₄)) t in
-          let t″ = and-true-r t₂ (t₃ && t₄) t′ in
+          let t′ = and-true-r t₁ (t₂ && (t₅ && (t₃ && t₄))) t in
+          let u = and-true-r t₂ (t₅ && (t₃ && t₄)) t′ in
+          let t″ = and-true-r t₅ (t₃ && t₄) u in
           record {
             other = S - n;
-            outer-conn = rw e (yes-true (connected? (q .graph) n) (and-true-l t₁ (t₂ && (t₃ && t₄)) t));
-            inner-conn = yes-true (connected? (q .graph) (S - n)) (and-true-l t₂ (t₃ && t₄) t′);
+            outer-conn = rw e (yes-true (connected? (q .graph) n) (and-true-l t₁ (t₂ && (t₅ && (t₃ && t₄))) t));
+            inner-conn = yes-true (connected? (q .graph) (S - n)) (and-true-l t₂ (t₅ && (t₃ && t₄)) t′);
+            shaped = and-true-l t₅ (t₃ && t₄) u;
             joinable = rw e (record { apart = eqb-true (bitAnd n (S - n)) 0 (and-true-l t₃ t₄ t″); between = yes-true (between? (q .graph) n (S - n)) (and-true-r t₃ t₄ t″) });
             whole = omega arith;
             method = record { from-one = r .1; to-count = r .2 };
@@ -236,6 +246,7 @@ module _ (q : Query) where
             outer-conn = a .connected;
             inner-conn = connected-single (q .graph) (a .last) (a .table);
             joinable = record { apart = a .splits .apart; between = a .between };
+            shaped = single-fits q (a .last);
             whole = a .splits .whole;
             method = me;
             costs = refl;
@@ -268,29 +279,46 @@ module _ (q : Query) where
 
 -- ---- what pairs handed so far offer a set
 module _ (q : Query) (best : ℕ → ℕ) where
-  -- both ways round, all methods
+  -- all ways, all methods
+  unfoldable pub offersBy : List Way → List Choice
+  offersBy [] = []
+  offersBy (w ∷ ws) = byMethod q best (w .outer) (w .inner) (methodCount q) ++ offersBy ws
+
   unfoldable pub offersOf : Pair → List Choice
-  offersOf p = byMethod q best (p .driving) (p .inner) (methodCount q) ++ byMethod q best (p .inner) (p .driving) (methodCount q)
+  offersOf p = offersBy (ways (q .shape) p)
 
   unfoldable pub offersFor : List Pair → ℕ → List Choice
   offersFor [] S = []
   offersFor (p ∷ h) S = cond (eqb (union p) S) (offersOf p) [] ++ offersFor h S
 
-  priced-in : (X Y : ℕ) (k : Choice) → Priced q best X Y k → List·Memᴰ k (byMethod q best X Y (methodCount q))
-  priced-in X Y k d = method-in q best X Y (methodCount q) k (d .outer) (d .method .from-one) (d .method .to-count) (d .costs)
+  priced-in : (X Y : ℕ) (k : Choice) → Priced (methodCount q) (joinCost q best) X Y k → List·Memᴰ k (byMethod q best X Y (methodCount q))
+  priced-in X Y k d = method-in q best X Y (methodCount q) k (d .outer) (d .from-one) (d .to-count) (d .costs)
 
-  priced-of : (X Y : ℕ) (k : Choice) → List·Memᴰ k (byMethod q best X Y (methodCount q)) → Priced q best X Y k
-  priced-of X Y k m = let r = method-of q best X Y (methodCount q) k m in record { outer = r .0; method = record { from-one = r .1; to-count = r .2 }; costs = r .3 }
+  priced-of : (X Y : ℕ) (k : Choice) → List·Memᴰ k (byMethod q best X Y (methodCount q)) → Priced (methodCount q) (joinCost q best) X Y k
+  priced-of X Y k m = let r = method-of q best X Y (methodCount q) k m in record { outer = r .0; from-one = r .1; to-count = r .2; costs = r .3 }
+
+  by-of : (ws : List Way) (k : Choice) → List·Memᴰ k (offersBy ws) → (w : Way) × List·Memᴰ w ws × Priced (methodCount q) (joinCost q best) (w .outer) (w .inner) k
+  unfolding offersBy
+  by-of [] k m = absurd (List·Memᴰ·not-nil m)
+  by-of (w ∷ ws) k m = go (by-of ws k) (List·Memᴰ·append-cases (byMethod q best (w .outer) (w .inner) (methodCount q)) m)
+    where
+      go : (List·Memᴰ k (offersBy ws) → (v : Way) × List·Memᴰ v ws × Priced (methodCount q) (joinCost q best) (v .outer) (v .inner) k) → List·Memᴰ k (byMethod q best (w .outer) (w .inner) (methodCount q)) ⊎ List·Memᴰ k (offersBy ws)
+          → (v : Way) × List·Memᴰ v (w ∷ ws) × Priced (methodCount q) (joinCost q best) (v .outer) (v .inner) k
+      go ih (inl a) = (w, List·Memᴰ·head refl, priced-of (w .outer) (w .inner) k a)
+      go ih (inr b) = let r = ih b in (r .0, List·Memᴰ·tail (r .1), r .2)
+
+  by-in : (ws : List Way) (k : Choice) (w : Way) → List·Memᴰ w ws → Priced (methodCount q) (joinCost q best) (w .outer) (w .inner) k → List·Memᴰ k (offersBy ws)
+  unfolding offersBy
+  by-in (v ∷ ws) k w (List·Memᴰ·head e) d = Memᴰ·append-left (offersBy ws) (priced-in (v .outer) (v .inner) k (rw e at d))
+  by-in (v ∷ ws) k w (List·Memᴰ·tail m) d = Memᴰ·append-right (byMethod q best (v .outer) (v .inner) (methodCount q)) (by-in ws k w m d)
 
   offers-of-pair : (p : Pair) (k : Choice) → List·Memᴰ k (offersOf p) → Offers q best p k
-  unfolding offersOf Offers
-  offers-of-pair p k m =
-      ⊎-elim (λ a. inl (priced-of (p .driving) (p .inner) k a)) (λ a. inr (priced-of (p .inner) (p .driving) k a)) (List·Memᴰ·append-cases (byMethod q best (p .driving) (p .inner) (methodCount q)) m)
+  unfolding offersOf
+  offers-of-pair p k m = let r = by-of (ways (q .shape) p) k m in record { way = r .0; offered = r .1; priced = r .2 }
 
   offers-in-pair : (p : Pair) (k : Choice) → Offers q best p k → List·Memᴰ k (offersOf p)
-  unfolding offersOf Offers
-  offers-in-pair p k (inl d) = Memᴰ·append-left (byMethod q best (p .inner) (p .driving) (methodCount q)) (priced-in (p .driving) (p .inner) k d)
-  offers-in-pair p k (inr d) = Memᴰ·append-right (byMethod q best (p .driving) (p .inner) (methodCount q)) (priced-in (p .inner) (p .driving) k d)
+  unfolding offersOf
+  offers-in-pair p k o = by-in (ways (q .shape) p) k (o .way) (o .offered) (o .priced)
 
   handed-of : (h : List Pair) (S : ℕ) (k : Choice) → List·Memᴰ k (offersFor h S) → Handed q best (among h) S k
   unfolding offersFor
@@ -312,15 +340,15 @@ module _ (q : Query) (best : ℕ → ℕ) where
   in-handed (x ∷ h) S p k (List·Memᴰ·tail m) w o = Memᴰ·append-right (cond (eqb (union x) S) (offersOf x) []) (in-handed h S p k m w o)
 
   -- where some pair of S was handed, the list's best is the best handed
-  pub handed-best : (me : IsMethod q 1) (h : List Pair) (S : ℕ) (p : Pair) → List·Memᴰ p h → union p ≡ S → Best (Handed q best (among h) S) (pickOf (offersFor h S))
+  pub handed-best : (me : IsMethod q 1) (h : List Pair) (S : ℕ) (p : Pair) → List·Memᴰ p h → union p ≡ S → Inner q (p .driving) → Best (Handed q best (among h) S) (pickOf (offersFor h S))
   unfolding pickOf
-  handed-best me h S p m w = go (offersFor h S) refl
+  handed-best me h S p m w f = go (offersFor h S) refl
     where
       first : Choice
-      first = record { cost = best (p .driving) + best (p .inner) + price q (p .driving) (p .inner) 1; outer = p .driving; method = 1 }
+      first = record { cost = best (p .inner) + best (p .driving) + price q (p .inner) (p .driving) 1; outer = p .inner; method = 1 }
 
       offered : Offers q best p first
-      offered = unfold Offers in (inl (record { outer = refl; method = me; costs = refl }))
+      offered = record { way = back p; offered = back-in (q .shape) p f; priced = record { outer = refl; from-one = me .from-one; to-count = me .to-count; costs = refl } }
 
       go : (l : List Choice) → offersFor h S ≡ l → Best (Handed q best (among h) S) (pickOf l)
       go [] e = absurd (List·Memᴰ·not-nil (rw e at (in-handed h S p first m w offered)))

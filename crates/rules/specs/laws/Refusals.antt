@@ -16,7 +16,7 @@ use Rattle.rules.specs.declared.NewEdge.the-variants.{Good as GoodEdge, 
 use Rattle.rules.specs.declared.Scheme.{Scheme}
 use Rattle.rules.specs.declared.NewScheme.{NewScheme}
 use Rattle.rules.specs.declared.NewScheme.the-variants.{Good as GoodScheme, Unknown}
-use Rattle.rules.specs.declared.NewCrew.the-variants.{Refused}
+use Rattle.rules.specs.declared.NewCrew.the-variants.{Good as GoodCrew, Refused}
 use Rattle.rules.specs.Limits.{maxTables, maxMethods, maxWorkers, maxDivisor, maxRows, maxScan, maxFixed, maxCoefficient, inRange, tablesFit, methodsFit, tableFits, methodFits}
 use Rattle.rules.specs.Kinds.{newEdge, edgeNumber, schemeOf, crewWith, newCrew}
 use Rattle.rules.specs.Lists.{isYes}
@@ -333,6 +333,10 @@ crew-true workers scheme e = go (true-or-false (inRange 1 maxWorkers workers)) e
         let k = known-scheme workers (schemeOf scheme) (rw t at h) in
         record { some-worker = range 1 maxWorkers workers t .0; few-workers = range 1 maxWorkers workers t .1; named = k .0; is-named = k .1 }
     go (inr t) h = absurd (not-both true refl (rw t at h))
+
+-- its crew
+pub crew-named : {workers scheme : ℕ} (g : CrewGood workers scheme) → newCrew workers scheme ≡ GoodCrew (record { workers = workers; scheme = g .named })
+crew-named {workers} {scheme} g = rw (of-range 1 maxWorkers workers (g .some-worker) (g .few-workers), g .is-named)
 
 true-crew : (workers scheme : ℕ) → CrewGood workers scheme → isRefused (newCrew workers scheme) ≡ false
 unfolding isRefused

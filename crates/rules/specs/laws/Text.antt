@@ -14,7 +14,7 @@ use Rattle.rules.specs.Sets.{size, full}
 use Rattle.rules.specs.Query.{tableCount}
 use Rattle.rules.specs.Connected.{Connected}
 use Rattle.rules.specs.Rows.{memo}
-use Rattle.rules.specs.Trees.{costOf, Least, Pick}
+use Rattle.rules.specs.Trees.{tablesOf, costOf, Least, Pick, Picked}
 use Rattle.rules.specs.Refusals.{Input, firstOf, verdict}
 use Rattle.rules.specs.Answers.{Outcome, Given}
 use Rattle.rules.specs.Reading.{reading}
@@ -62,6 +62,13 @@ plan-unique {i} {a} {b} p r =
     let h : p .handed ≡ r .handed = hands-unique (p .turns) (r .turns) in
     let f : planLine (costOf (i .query) (p .tree)) (length (p .handed)) ++ joinLines (i .query) (p .tree) ≡ planLine (costOf (i .query) (r .tree)) (length (r .handed)) ++ joinLines (i .query) (r .tree) = rw (e, h) refl in
     p .bytes-are ∙ f ∙ sym (r .bytes-are)
+
+-- the plan itself does not depend on crew and turns
+pub plan-free : {i i′ : Input} {a b : List ℕ} → i .query ≡ i′ .query → (p : PlanText i a) (r : PlanText i′ b) → p .tree ≡ r .tree
+plan-free {i} {i′} e p r =
+    let k : Picked (i′ .query) (p .tree) = rw e at (p .picked) in
+    let w : tablesOf (p .tree) ≡ full (tableCount (i′ .query .graph)) = rw e at (p .whole) in
+    picked-unique (i′ .query) (p .tree) (r .tree) k (r .picked) (w ∙ sym (r .whole))
 
 -- its best cost is the least over all trees of all tables
 pub plan-least : {i : Input} {bytes : List ℕ} (p : PlanText i bytes) → Least (i .query) (full (tableCount (i .query .graph))) (costOf (i .query) (p .tree))

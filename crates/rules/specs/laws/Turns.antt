@@ -8,7 +8,7 @@ use native.Mathlib.Decide.{decLt, ℕ-discrete}
 use native.Mathlib.Omega.{arith}
 use lib.ListN.{length}
 use borrow.Author.Tests.{eq-eqb, ne-eqb}
-use Rattle.rules.specs.Turns.{Hand, rest, pop, hand, Empty, Lowest, Run, closed, listed, lowest, Sizes, only}
+use Rattle.rules.specs.Turns.{Hand, rest, pop, hand, Empty, Lowest, Run, closed, listed, lowest, Groups, only}
 
 module _ {C : Type 0} where
   -- a turn of worker w, seen by w, and by another
@@ -188,20 +188,20 @@ module _ {C : Type 0} where
         go r (inl e) = ([], w ∷ ts, closed e refl refl)
         go r (inr x) = (hand w (qs w) ++ r .0, r .1, listed (λ e. x .1 .left (e (x .0) (x .1 .worker))) (r .2) refl)
 
--- ---- sizes in a row
+-- ---- groups in a row
 module _ {C : Type 0} (m : ℕ) (queues : ℕ → ℕ → List C) where
-  pub sizes-unique : (s n : ℕ) (ts : List ℕ) (h h′ : List (Hand C)) → Sizes m queues s n ts h → Sizes m queues s n ts h′ → h ≡ h′
-  unfolding Sizes
-  sizes-unique s zero ts h h′ p p′ = p ∙ sym p′
-  sizes-unique s (suc n) ts h h′ p p′ =
+  pub groups-unique : (k n : ℕ) (ts : List ℕ) (h h′ : List (Hand C)) → Groups m queues k n ts h → Groups m queues k n ts h′ → h ≡ h′
+  unfolding Groups
+  groups-unique k zero ts h h′ p p′ = p ∙ sym p′
+  groups-unique k (suc n) ts h h′ p p′ =
       let a = run-unique (p .3) (p′ .3) in
-      let b = sizes-unique (suc s) n (p′ .2) (p .1) (p′ .1) (rw (a .1) at (p .4)) (p′ .4) in
+      let b = groups-unique (suc k) n (p′ .2) (p .1) (p′ .1) (rw (a .1) at (p .4)) (p′ .4) in
       p .5 ∙ ap₂ (λ (x y : List (Hand C)). x ++ y) (a .0) b ∙ sym (p′ .5)
 
-  unfoldable pub sizes-exist : (s n : ℕ) (ts : List ℕ) → (h : List (Hand C)) × Sizes m queues s n ts h
-  unfolding Sizes run-exists
-  sizes-exist s zero ts = ([], refl)
-  sizes-exist s (suc n) ts =
-      let a = run-exists m ts (queues s) in
-      let b = sizes-exist (suc s) n (a .1) in
+  unfoldable pub groups-exist : (k n : ℕ) (ts : List ℕ) → (h : List (Hand C)) × Groups m queues k n ts h
+  unfolding Groups run-exists
+  groups-exist k zero ts = ([], refl)
+  groups-exist k (suc n) ts =
+      let a = run-exists m ts (queues k) in
+      let b = groups-exist (suc k) n (a .1) in
       (a .0 ++ b .0, (a .0, b .0, a .1, a .2, b .1, refl))
