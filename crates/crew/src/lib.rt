@@ -12,7 +12,7 @@ pub mod log;
 pub mod table;
 pub mod whose;
 
-// A worker of the table: its share of the size, its place, the memo row of its last result, how many pairs it was handed.
+// A worker of the table: its share of the group, its place, the memo row of its last result, how many pairs it was handed.
 pub struct Worker {
     pub share: Share,
     pub place: Place,

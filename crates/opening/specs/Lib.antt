@@ -1,3 +1,3 @@
--- What opening a size means, and the laws that the proofs cite.
+-- What opening a group means, and the laws that the proofs cite.
 pub mod Opening
 pub mod OpenLaws

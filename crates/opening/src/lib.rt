@@ -1,20 +1,20 @@
-// Opening a size: every worker at its first joinable pair.
+// Opening a group: every worker at its first joinable pair.
 ghost use Prim.Native.Nat.{_≤_};
-ghost use lib.ListN.{length};
 ghost use Rattle.rules.specs.Limits.{maxWorkers};
 ghost use Rattle.rules.specs.Query.{graphOf};
 ghost use Rattle.rules.specs.Checked.{GoodGraph};
-ghost use Rattle.pairs.specs.Places.{Ground};
+ghost use Rattle.pairs.specs.Places.{Fit, Ground};
 ghost use Rattle.opening.specs.Opening.{Opened};
 use crew::Worker;
 use crew::table::with_worker;
 use crew::table::worker_at;
 use pairs::find::count_candidates;
 use pairs::find::first_pair;
-use rules::Scheme;
+use rules::Crew;
+use rules::Group;
 use shares::share_of;
 
-// Places each of `count` workers at its first joinable pair of size `s`, with its share of the size.
+// Places each worker of the crew at its first joinable pair of the group, with its share of it.
 pub fn open(
     rows: &[u64],
     left: &[u64],
@@ -24,19 +24,19 @@ pub fn open(
     skips: &[u64],
     starts: &[usize],
     cells: &[usize],
-    s: usize,
-    scheme: Scheme,
-    count: usize,
+    group: Group,
+    crew: Crew,
     workers: [Worker; 8],
 ) -> [Worker; 8]
     requires { ⌜ GoodGraph (graphOf (now rows) (now left) (now right) (now divisors)) × Ground (graphOf (now rows) (now left) (now right) (now divisors)) (now sets) (now skips) (now starts) (now cells) ⌝ }
-    requires { ⌜ (2 ≤ s) × (s ≤ length (now rows)) × (1 ≤ count) × (count ≤ maxWorkers) ⌝ }
-    ensures { λ r. ⌜ Opened (graphOf (now (rows .entry)) (now (left .entry)) (now (right .entry)) (now (divisors .entry))) s scheme count workers r ⌝ }
+    requires { ⌜ Fit (graphOf (now rows) (now left) (now right) (now divisors)) group × (1 ≤ crew .workers) × (crew .workers ≤ maxWorkers) ⌝ }
+    ensures { λ r. ⌜ Opened (graphOf (now (rows .entry)) (now (left .entry)) (now (right .entry)) (now (divisors .entry))) group crew workers r ⌝ }
 {
-    let total = count_candidates(starts, s);
+    let total = count_candidates(starts, group);
+    let count = crew.workers as usize;
     let mut next = workers;
     for w in 0..count {
-        let share = share_of(scheme, count, w, total);
+        let share = share_of(crew, w, total);
         let old = worker_at(next, w);
         let placed = Worker {
             share: share,
@@ -49,10 +49,10 @@ pub fn open(
                 skips,
                 starts,
                 cells,
-                s,
+                group,
                 share,
             ),
-            last: starts[s],
+            last: 0,
             handed: old.handed,
         };
         let opened = with_worker(next, w, placed);

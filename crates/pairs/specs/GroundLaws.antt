@@ -14,6 +14,8 @@ use lib.Seq.{getD-take, drop-cons, drop-length}
 use Rattle.rules.specs.Lists.{keep, inRow}
 use Rattle.rules.specs.Sets.{holds, size, rank}
 use Rattle.rules.specs.Query.{Graph, tableCount}
+use Rattle.rules.specs.declared.Group.{Group}
+use Rattle.rules.specs.Schedule.{innerAt}
 use Rattle.rules.specs.Checked.{GoodGraph}
 use Rattle.rules.specs.Connected.{Connected}
 use Rattle.rules.specs.Rows.{rowsOf, memo}
@@ -31,10 +33,10 @@ use Rattle.rows.specs.WalkLaws.{rows-fit}
 use Rattle.skips.specs.VectorLaws.{vectors-cells}
 use Rattle.shares.specs.declared.places.Place.{Place}
 use Rattle.shares.specs.declared.Share.{Share}
-use Rattle.shares.specs.Shares.{ShareOf, inSpan, spanOf, onSpan}
+use Rattle.shares.specs.Shares.{ShareOf, crewOf, inSpan, spanOf, onSpan}
 use Rattle.pairs.specs.Joinable.{isJoinable}
-use Rattle.pairs.specs.Places.{startOf, cellOf, firstRow, endRow, aheadOf, candidateAt, noCandidate, metAt, ownAt, queueAt, Ground, Hops, RowCells, At, Waits, NextFrom, rowsIn, SizesFit, countAt, countTo}
-use Rattle.pairs.specs.PlaceLaws.{with-length, row-next, row-at, row-inside, start-next, start-memo, in-size, size-known, memo-inside, memo-row, first-from, met-inside, met-at, memo-few}
+use Rattle.pairs.specs.Places.{Fit, Drives, startOf, cellOf, firstRow, endRow, aheadOf, candidateAt, noCandidate, metAt, ownAt, queueAt, Ground, Hops, RowCells, At, Waits, NextFrom, rowsIn, SizesFit, Countable, countAt, countTo}
+use Rattle.pairs.specs.PlaceLaws.{drives, with-length, row-next, row-at, row-inside, start-next, start-memo, in-size, size-known, memo-inside, memo-row, first-from, met-inside, met-at, memo-few}
 use Rattle.pairs.specs.SpanLaws.{span-owns, span-on}
 
 -- ---- tests and lists
@@ -156,55 +158,55 @@ module _ (g : Graph) (sets cells starts cellStarts : List ℕ) (z : Ground g set
         }
 
   -- a candidate is joinable exactly where the sets of its two rows are
-  pub joinable-candidate : (s d i j : ℕ) → i < length (memo g) → j < length (memo g) → joinable g (candidateAt g s d i j .candidate) ≡ isJoinable g (getD sets i 0) (getD sets j 0)
+  pub joinable-candidate : (group : Group) (d i j : ℕ) → i < length (memo g) → j < length (memo g) → joinable g (candidateAt g group d i j .candidate) ≡ isJoinable g (getD sets i 0) (getD sets j 0)
   unfolding joinable
-  joinable-candidate s d i j a b = rw (ground-set i a .1, ground-set j b .1)
+  joinable-candidate group d i j a b = rw (ground-set i a .1, ground-set j b .1)
 
   -- ---- a worker's own candidates, which it may join
-  module _ (s : ℕ) (h : Share) (o : ShareOf g s h) (d i j : ℕ) (from-one : 1 ≤ d) (to-half : d ≤ s / 2) (row-from : startOf g d ≤ i) (row-to : i < startOf g (d + 1)) (inner-from : firstRow g s d i ≤ j) where
+  module _ (group : Group) (h : Share) (o : ShareOf g group h) (d i j : ℕ) (from-one : 1 ≤ d) (to-last : Drives g group d) (row-from : startOf g d ≤ i) (row-to : i < startOf g (d + 1)) (inner-from : firstRow g group d i ≤ j) where
     driving-inside : i < length (memo g)
     driving-inside = memo-inside g d i from-one row-from row-to
 
-    inner-inside : (p : ℕ) → j ≤ p → p < endRow g s d → p < length (memo g)
-    inner-inside p a b = memo-inside g (s - d) p (omega arith) (omega (arith, first-from g s d from-one to-half i row-from)) b
+    inner-inside : (p : ℕ) → j ≤ p → p < endRow g group d → p < length (memo g)
+    inner-inside p a b = memo-inside g (innerAt group d) p (omega arith) (omega (arith, first-from g group d from-one to-last i row-from)) b
 
-    number-own : (p : ℕ) → j ≤ p → p < endRow g s d → ownAt g s h (aheadOf g s d i + (p - firstRow g s d i))
-        ≡ (owns (h .scheme) (length (met g s)) (h .workers) (h .worker) (candidateAt g s d i p) && isJoinable g (getD sets i 0) (getD sets p 0))
+    number-own : (p : ℕ) → j ≤ p → p < endRow g group d → ownAt g group h (aheadOf g group d i + (p - firstRow g group d i))
+        ≡ (owns (h .scheme) (length (met g group)) (h .workers) (h .worker) (candidateAt g group d i p) && isJoinable g (getD sets i 0) (getD sets p 0))
     unfolding mine
     number-own p a b =
-        ap (mine g (h .scheme) (h .workers) s (h .worker)) (met-at g s d i p from-one to-half row-from row-to (omega arith) b)
-        ∙ ap (λ (t : Bool). owns (h .scheme) (length (met g s)) (h .workers) (h .worker) (candidateAt g s d i p) && t) (joinable-candidate s d i p driving-inside (inner-inside p a b))
+        ap (mine g (crewOf h) group (h .worker)) (met-at g group d i p from-one to-last row-from row-to (omega arith) b)
+        ∙ ap (λ (t : Bool). owns (h .scheme) (length (met g group)) (h .workers) (h .worker) (candidateAt g group d i p) && t) (joinable-candidate group d i p driving-inside (inner-inside p a b))
 
-    module _ (inner-to : j < endRow g s d) where
-      own-is : ownAt g s h (aheadOf g s d i + (j - firstRow g s d i))
-          ≡ (inSpan (spanOf h (aheadOf g s d i) (length (rowsOf g d)) (i - startOf g d) (firstRow g s d i) (endRow g s d)) j && isJoinable g (getD sets i 0) (getD sets j 0))
-      own-is = number-own j (omega arith) inner-to ∙ ap (λ (t : Bool). t && isJoinable g (getD sets i 0) (getD sets j 0)) (span-owns g s h o d i j inner-from inner-to)
+    module _ (inner-to : j < endRow g group d) where
+      own-is : ownAt g group h (aheadOf g group d i + (j - firstRow g group d i))
+          ≡ (inSpan (spanOf h (aheadOf g group d i) (length (rowsOf g d)) (i - startOf g d) (firstRow g group d i) (endRow g group d)) j && isJoinable g (getD sets i 0) (getD sets j 0))
+      own-is = number-own j (omega arith) inner-to ∙ ap (λ (t : Bool). t && isJoinable g (getD sets i 0) (getD sets j 0)) (span-owns g group h o d i j inner-from inner-to)
 
       -- one of its span of the driving row whose sets are joinable is its own
-      pub own-at : inSpan (spanOf h (aheadOf g s d i) (length (rowsOf g d)) (i - startOf g d) (firstRow g s d i) (endRow g s d)) j ≡ true → isJoinable g (getD sets i 0) (getD sets j 0) ≡ true
-          → ownAt g s h (aheadOf g s d i + (j - firstRow g s d i)) ≡ true
+      pub own-at : inSpan (spanOf h (aheadOf g group d i) (length (rowsOf g d)) (i - startOf g d) (firstRow g group d i) (endRow g group d)) j ≡ true → isJoinable g (getD sets i 0) (getD sets j 0) ≡ true
+          → ownAt g group h (aheadOf g group d i + (j - firstRow g group d i)) ≡ true
       own-at a b = own-is ∙ and-true _ _ a b
 
       -- one that is not of its span, or whose sets are not joinable, is not
-      pub not-own : (inSpan (spanOf h (aheadOf g s d i) (length (rowsOf g d)) (i - startOf g d) (firstRow g s d i) (endRow g s d)) j ≡ true → isJoinable g (getD sets i 0) (getD sets j 0) ≡ false)
-          → ownAt g s h (aheadOf g s d i + (j - firstRow g s d i)) ≡ false
+      pub not-own : (inSpan (spanOf h (aheadOf g group d i) (length (rowsOf g d)) (i - startOf g d) (firstRow g group d i) (endRow g group d)) j ≡ true → isJoinable g (getD sets i 0) (getD sets j 0) ≡ false)
+          → ownAt g group h (aheadOf g group d i + (j - firstRow g group d i)) ≡ false
       not-own n = own-is ∙ and-not _ _ n
 
     -- after its own candidate x, whose inner row is j
-    module _ (x p : ℕ) (number : x ≡ aheadOf g s d i + (j - firstRow g s d i)) (own : ownAt g s h x ≡ true) (later : j < p) (inner-to : p < endRow g s d) where
-      on-is : ownAt g s h (x + (p - j)) ≡ (inSpan (onSpan h x j (endRow g s d)) p && isJoinable g (getD sets i 0) (getD sets p 0))
+    module _ (x p : ℕ) (number : x ≡ aheadOf g group d i + (j - firstRow g group d i)) (own : ownAt g group h x ≡ true) (later : j < p) (inner-to : p < endRow g group d) where
+      on-is : ownAt g group h (x + (p - j)) ≡ (inSpan (onSpan h x j (endRow g group d)) p && isJoinable g (getD sets i 0) (getD sets p 0))
       on-is =
-          let f : x + (p - j) ≡ aheadOf g s d i + (p - firstRow g s d i) = omega arith in
-          let c = owns (h .scheme) (length (met g s)) (h .workers) (h .worker) (candidateAt g s d i j) in
-          let t : c ≡ true = and-true-l c (isJoinable g (getD sets i 0) (getD sets j 0)) (sym (number-own j (omega arith) (omega arith)) ∙ ap (ownAt g s h) (sym number) ∙ own) in
-          rw (f, number) (number-own p (omega arith) inner-to ∙ ap (λ (k : Bool). k && isJoinable g (getD sets i 0) (getD sets p 0)) (span-on g s h o d i j inner-from p later inner-to t))
+          let f : x + (p - j) ≡ aheadOf g group d i + (p - firstRow g group d i) = omega arith in
+          let c = owns (h .scheme) (length (met g group)) (h .workers) (h .worker) (candidateAt g group d i j) in
+          let t : c ≡ true = and-true-l c (isJoinable g (getD sets i 0) (getD sets j 0)) (sym (number-own j (omega arith) (omega arith)) ∙ ap (ownAt g group h) (sym number) ∙ own) in
+          rw (f, number) (number-own p (omega arith) inner-to ∙ ap (λ (k : Bool). k && isJoinable g (getD sets i 0) (getD sets p 0)) (span-on g group h o d i j inner-from p later inner-to t))
 
       -- one of what is left of its span whose sets are joinable is its own
-      pub own-on : inSpan (onSpan h x j (endRow g s d)) p ≡ true → isJoinable g (getD sets i 0) (getD sets p 0) ≡ true → ownAt g s h (x + (p - j)) ≡ true
+      pub own-on : inSpan (onSpan h x j (endRow g group d)) p ≡ true → isJoinable g (getD sets i 0) (getD sets p 0) ≡ true → ownAt g group h (x + (p - j)) ≡ true
       own-on a b = on-is ∙ and-true _ _ a b
 
       -- one that is not of it, or whose sets are not joinable, is not
-      pub not-on : (inSpan (onSpan h x j (endRow g s d)) p ≡ true → isJoinable g (getD sets i 0) (getD sets p 0) ≡ false) → ownAt g s h (x + (p - j)) ≡ false
+      pub not-on : (inSpan (onSpan h x j (endRow g group d)) p ≡ true → isJoinable g (getD sets i 0) (getD sets p 0) ≡ false) → ownAt g group h (x + (p - j)) ≡ false
       not-on n = on-is ∙ and-not _ _ n
 
   -- ---- counts of rows and candidates
@@ -212,64 +214,80 @@ module _ (g : Graph) (sets cells starts cellStarts : List ℕ) (z : Ground g set
   rows-in k l u = omega (arith, z .starts-known k l (omega arith), z .starts-known (k + 1) (omega arith) (omega arith), start-next g k l)
 
   -- sizes begin one after another, and none has too many rows
-  pub sizes-fit : GoodGraph g → (s : ℕ) → s ≤ tableCount g → SizesFit starts s
-  sizes-fit good s h = record {
+  pub sizes-fit : GoodGraph g → (sizes : ℕ) → sizes ≤ tableCount g → SizesFit starts sizes
+  sizes-fit good sizes h = record {
     forward = λ k l u. omega (arith, z .starts-known k l (omega arith), z .starts-known (k + 1) (omega arith) (omega arith), start-next g k l);
     fits = λ k l u. omega (arith, rows-in k l (omega arith), rows-fit g k (good .few-tables));
   }
 
+  -- so the candidates of a group can be counted
+  pub countable : GoodGraph g → (group : Group) → Fit g group → Countable starts group
+  countable good group fit = record {
+    sizes = tableCount g;
+    few-sizes = good .few-tables;
+    long = omega (arith, z .starts-long);
+    fits = sizes-fit good (tableCount g) (omega arith);
+    rising = fit .rising;
+    inside = λ d l u. omega (arith, fit .known d l u);
+    last = go (decLt 0 (group .last));
+  }
+    where
+      go : Dec (0 < group .last) → group .last < tableCount g
+      go (yes l) = omega (arith, fit .known (group .last) l (omega arith), fit .rising (group .last) l (omega arith))
+      go (no n) = omega (arith, good .some-table)
+
   -- as many candidates as driving rows and inner rows make
-  driven-count : (s d : ℕ) → s ≤ tableCount g → 1 ≤ d → d ≤ s / 2 → length (driven (rowsOf g) s d) ≡ countAt starts s d
+  driven-count : (group : Group) (d : ℕ) → 1 ≤ d → Drives g group d → length (driven (rowsOf g) group d) ≡ countAt starts group d
   unfolding driven
-  driven-count s d h l u = rw (rows-in d l (omega arith), rows-in (s - d) (omega arith) (omega arith)) (go (eqb (d + d) s))
+  driven-count group d l u = rw (rows-in d l (omega arith), rows-in (innerAt group d) (omega arith) (omega arith)) (go (eqb d (innerAt group d)))
     where
       D : ℕ
       D = length (rowsOf g d)
 
-      go : (b : Bool) → length (cond b (within D 0 (rowsOf g d)) (across D 0 (rowsOf g d) (rowsOf g (s - d)))) ≡ cond b (D * (D - 1) / 2) (D * length (rowsOf g (s - d)))
+      go : (b : Bool) → length (cond b (within D 0 (rowsOf g d)) (across D 0 (rowsOf g d) (rowsOf g (innerAt group d)))) ≡ cond b (D * (D - 1) / 2) (D * length (rowsOf g (innerAt group d)))
       go true = omega (arith, within-length D 0 (rowsOf g d))
-      go false = across-length D 0 (rowsOf g d) (rowsOf g (s - d))
+      go false = across-length D 0 (rowsOf g d) (rowsOf g (innerAt group d))
 
-  count-sizes : (s d : ℕ) → s ≤ tableCount g → d ≤ s / 2 → countTo starts s d ≡ length (inRow (driven (rowsOf g) s) 1 d)
+  count-sizes : (group : Group) (d : ℕ) → Fit g group → d ≤ group .last → countTo starts group d ≡ length (inRow (driven (rowsOf g) group) 1 d)
   unfolding countTo inRow
-  count-sizes s zero h u = refl
-  count-sizes s (suc d) h u =
+  count-sizes group zero h u = refl
+  count-sizes group (suc d) h u =
       let e : 1 + d ≡ suc d = omega arith in
-      omega (arith, row-next (driven (rowsOf g) s) 1 d, ap (λ (x : ℕ). length (driven (rowsOf g) s x)) e, driven-count s (suc d) h (omega arith) u, count-sizes s d h (omega arith))
+      omega (arith, row-next (driven (rowsOf g) group) 1 d, ap (λ (x : ℕ). length (driven (rowsOf g) group x)) e, driven-count group (suc d) (omega arith) (drives h (omega arith) u), count-sizes group d h (omega arith))
 
-  -- the rows of each size tell how many candidates a size has
-  pub count-met : (s : ℕ) → s ≤ tableCount g → countTo starts s (s / 2) ≡ length (met g s)
+  -- the rows of each size tell how many candidates a group has
+  pub count-met : (group : Group) → Fit g group → countTo starts group (group .last) ≡ length (met g group)
   unfolding met candidates candidatesOf
-  count-met s h = count-sizes s (s / 2) h (omega arith) ∙ sym (numbered-length 0 (candidates g s))
+  count-met group h = count-sizes group (group .last) h (omega arith) ∙ sym (numbered-length 0 (candidates g group))
 
 -- ---- what is left to a worker
 -- the place of a candidate has its number
-pub at-number : (g : Graph) (s : ℕ) (p : Place) → At g s p → (p .number < length (met g s)) × (metAt g s (p .number) ≡ candidateAt g s (p .size) (p .row) (p .inner))
-at-number g s p a = rw (a .number) (
-  met-inside g s (p .size) (p .row) (p .inner) (a .from-one) (a .to-half) (a .row-from) (a .row-to) (a .inner-from) (a .inner-to),
-  met-at g s (p .size) (p .row) (p .inner) (a .from-one) (a .to-half) (a .row-from) (a .row-to) (a .inner-from) (a .inner-to),
+pub at-number : (g : Graph) (group : Group) (p : Place) → At g group p → (p .number < length (met g group)) × (metAt g group (p .number) ≡ candidateAt g group (p .size) (p .row) (p .inner))
+at-number g group p a = rw (a .number) (
+  met-inside g group (p .size) (p .row) (p .inner) (a .from-one) (a .to-last) (a .row-from) (a .row-to) (a .inner-from) (a .inner-to),
+  met-at g group (p .size) (p .row) (p .inner) (a .from-one) (a .to-last) (a .row-from) (a .row-to) (a .inner-from) (a .inner-to),
 )
 
-module _ (g : Graph) (s : ℕ) (h : Share) where
+module _ (g : Graph) (group : Group) (h : Share) where
   -- at first a worker has its whole queue
-  pub queue-all : queueAt g s h 0 ≡ queue g (h .scheme) (h .workers) s (h .worker)
-  queue-all = sym (ap (λ (f : ℕ → List Numbered). f (h .worker)) (queue-mine g (h .scheme) (h .workers) s))
+  pub queue-all : queueAt g group h 0 ≡ queue g (crewOf h) group (h .worker)
+  queue-all = sym (ap (λ (f : ℕ → List Numbered). f (h .worker)) (queue-mine g (crewOf h) group))
 
   -- up to its next joinable pair nothing is its own
-  pub next-queue : (x : ℕ) (p : Place) → NextFrom g s h x p → queueAt g s h x ≡ queueAt g s h (p .number)
+  pub next-queue : (x : ℕ) (p : Place) → NextFrom g group h x p → queueAt g group h x ≡ queueAt g group h (p .number)
   next-queue x p n =
       let e : x + (p .number - x) ≡ p .number = omega (arith, n .ahead) in
-      rw e at (keep-past (mine g (h .scheme) (h .workers) s (h .worker)) noCandidate (met g s) (p .number - x) x (λ y a b. n .clear y a (omega (arith, n .ahead))))
+      rw e at (keep-past (mine g (crewOf h) group (h .worker)) noCandidate (met g group) (p .number - x) x (λ y a b. n .clear y a (omega (arith, n .ahead))))
 
-  module _ (p : Place) (w : Waits g s h p) where
+  module _ (p : Place) (w : Waits g group h p) where
     -- where it waits at a pair, that pair is the next of its queue
-    pub queue-here : p .left ≡ true → queueAt g s h (p .number) ≡ metAt g s (p .number) ∷ queueAt g s h (p .number + 1)
+    pub queue-here : p .left ≡ true → queueAt g group h (p .number) ≡ metAt g group (p .number) ∷ queueAt g group h (p .number + 1)
     unfolding keep
     queue-here t =
         let r = w .there t in
-        rw (drop-cons (met g s) (p .number) noCandidate (at-number g s p (r .0) .0), r .1, add-one (p .number)) refl
+        rw (drop-cons (met g group) (p .number) noCandidate (at-number g group p (r .0) .0), r .1, add-one (p .number)) refl
 
     -- where it has none, nothing is left
-    pub queue-none : p .left ≡ false → queueAt g s h (p .number) ≡ []
+    pub queue-none : p .left ≡ false → queueAt g group h (p .number) ≡ []
     unfolding keep
-    queue-none f = rw (w .none f, drop-length (met g s))
+    queue-none f = rw (w .none f, drop-length (met g group))

@@ -1,4 +1,4 @@
--- Places among a size's candidates, the search from a place on, and the laws that the proofs cite.
+-- Places among a group's candidates, the search from a place on, and the laws that the proofs cite.
 pub mod Joinable
 pub mod Places
 pub mod PlaceLaws

@@ -11,7 +11,8 @@ use lib.ListN.{length, getD}
 use borrow.Author.Tests.{eqb-true, eq-eqb, ltb-true, ltb-false, leb-true, lt-ltb, le-leb, lt-leb}
 use Rattle.rules.specs.declared.Scheme.{Scheme}
 use Rattle.rules.specs.declared.Scheme.the-variants.{CutCandidates, CutRows, DealRows, DealInner}
-use Rattle.rules.specs.Query.{Graph, tableCount}
+use Rattle.rules.specs.Query.{Graph}
+use Rattle.rules.specs.declared.Group.{Group}
 use Rattle.rules.specs.Checked.{GoodGraph}
 use Rattle.rules.specs.Rows.{rowsOf, memo}
 use Rattle.rules.specs.Shares.{Numbered, cut, inCut, owns, met}
@@ -20,7 +21,7 @@ use Rattle.rules.specs.laws.Shares.{cut-mono, cut-all}
 use Rattle.shares.specs.declared.Share.{Share}
 use Rattle.shares.specs.declared.Span.{Span}
 use Rattle.shares.specs.Shares.{few, ShareFits, ShareOf, spans, inSpan, allSpan, clipped, spanBy, spanOf, onBy, onSpan, Aligned}
-use Rattle.pairs.specs.Places.{startOf, firstRow, endRow, aheadOf, candidateAt}
+use Rattle.pairs.specs.Places.{Fit, startOf, firstRow, endRow, aheadOf, candidateAt}
 use Rattle.pairs.specs.PlaceLaws.{met-few}
 
 -- ---- strides
@@ -200,24 +201,24 @@ module _ (h : Share) (T : ℕ) (worker : h .worker < h .workers) (from : h .from
   spans-on DealRows x first end j p Y Z l n u o = o ∙ all-span true (j + 1) end p (omega arith) u
   spans-on DealInner x first end j p Y Z l n u o = next-span (h .workers) (h .worker) first end j p (omega arith) l n u (eqb-true ((j - first) % h .workers) (h .worker) o)
 
-module _ (g : Graph) (s : ℕ) (h : Share) (z : ShareOf g s h) where
-  -- a worker's cut is one of all candidates of the size
-  pub share-total : h .total ≡ length (met g s)
+module _ (g : Graph) (group : Group) (h : Share) (z : ShareOf g group h) where
+  -- a worker's cut is one of all candidates of the group
+  pub share-total : h .total ≡ length (met g group)
   share-total = ap (λ (x : Share). x .total) (z .is)
 
-  share-from : h .from ≡ cut (length (met g s)) (h .workers) (h .worker)
+  share-from : h .from ≡ cut (length (met g group)) (h .workers) (h .worker)
   share-from = ap (λ (x : Share). x .from) (z .is)
 
-  share-to : h .to ≡ cut (length (met g s)) (h .workers) (h .worker + 1)
+  share-to : h .to ≡ cut (length (met g group)) (h .workers) (h .worker + 1)
   share-to = ap (λ (x : Share). x .to) (z .is)
 
   -- a worker's share is within what its arithmetic asks
-  pub share-fits : GoodGraph g → s ≤ tableCount g → ShareFits h
+  pub share-fits : GoodGraph g → Fit g group → ShareFits h
   share-fits good known =
-      let T = length (met g s) in
+      let T = length (met g group) in
       let m = h .workers in
       let all : cut T m m ≡ T = cut-all T m (z .some-worker) in
-      let few-all : T ≤ few = met-few g good s known in
+      let few-all : T ≤ few = met-few g good group known in
       record {
         some-worker = z .some-worker;
         few-workers = z .few-workers;
@@ -227,20 +228,20 @@ module _ (g : Graph) (s : ℕ) (h : Share) (z : ShareOf g s h) where
         to = omega (arith, share-to, cut-mono T m (h .worker + 1) m (z .some-worker) (omega (arith, z .worker)));
       }
 
-  module _ (d i j : ℕ) (inner-from : firstRow g s d i ≤ j) where
+  module _ (d i j : ℕ) (inner-from : firstRow g group d i ≤ j) where
     -- a worker has the candidate of driving row i and inner row j exactly where its span of the driving row has j
-    pub span-owns : j < endRow g s d
-        → owns (h .scheme) (length (met g s)) (h .workers) (h .worker) (candidateAt g s d i j) ≡ inSpan (spanOf h (aheadOf g s d i) (length (rowsOf g d)) (i - startOf g d) (firstRow g s d i) (endRow g s d)) j
+    pub span-owns : j < endRow g group d
+        → owns (h .scheme) (length (met g group)) (h .workers) (h .worker) (candidateAt g group d i j) ≡ inSpan (spanOf h (aheadOf g group d i) (length (rowsOf g d)) (i - startOf g d) (firstRow g group d i) (endRow g group d)) j
     span-owns inner-to =
-        spans-own h (length (met g s)) (z .worker) share-from share-to (length (rowsOf g d)) (i - startOf g d) (getD (memo g) i 0) (h .scheme) (aheadOf g s d i) (firstRow g s d i) (endRow g s d) j (getD (memo g) j 0) inner-from inner-to
+        spans-own h (length (met g group)) (z .worker) share-from share-to (length (rowsOf g d)) (i - startOf g d) (getD (memo g) i 0) (h .scheme) (aheadOf g group d i) (firstRow g group d i) (endRow g group d) j (getD (memo g) j 0) inner-from inner-to
 
     -- after its own inner row j, exactly where what is left of the span has it
-    pub span-on : (p : ℕ) → j < p → p < endRow g s d → owns (h .scheme) (length (met g s)) (h .workers) (h .worker) (candidateAt g s d i j) ≡ true
-        → owns (h .scheme) (length (met g s)) (h .workers) (h .worker) (candidateAt g s d i p) ≡ inSpan (onSpan h (aheadOf g s d i + (j - firstRow g s d i)) j (endRow g s d)) p
+    pub span-on : (p : ℕ) → j < p → p < endRow g group d → owns (h .scheme) (length (met g group)) (h .workers) (h .worker) (candidateAt g group d i j) ≡ true
+        → owns (h .scheme) (length (met g group)) (h .workers) (h .worker) (candidateAt g group d i p) ≡ inSpan (onSpan h (aheadOf g group d i + (j - firstRow g group d i)) j (endRow g group d)) p
     span-on p a b o =
-        let x = aheadOf g s d i + (j - firstRow g s d i) in
-        let e : x + (p - j) ≡ aheadOf g s d i + (p - firstRow g s d i) = omega arith in
-        rw e at (spans-on h (length (met g s)) (z .worker) share-from share-to (length (rowsOf g d)) (i - startOf g d) (getD (memo g) i 0) (h .scheme) x (firstRow g s d i) (endRow g s d) j p (getD (memo g) j 0) (getD (memo g) p 0) inner-from a b o)
+        let x = aheadOf g group d i + (j - firstRow g group d i) in
+        let e : x + (p - j) ≡ aheadOf g group d i + (p - firstRow g group d i) = omega arith in
+        rw e at (spans-on h (length (met g group)) (z .worker) share-from share-to (length (rowsOf g d)) (i - startOf g d) (getD (memo g) i 0) (h .scheme) x (firstRow g group d i) (endRow g group d) j p (getD (memo g) j 0) (getD (memo g) p 0) inner-from a b o)
 
 -- ---- where spans lie
 -- a span of inner rows from first to end

@@ -8,6 +8,8 @@ use native.Mathlib.Nat.{le-antisymm}
 use native.Mathlib.Omega.{arith}
 use lib.ListN.{length, getD}
 use Rattle.rules.specs.Query.{Graph}
+use Rattle.rules.specs.declared.Group.{Group}
+use Rattle.rules.specs.Schedule.{innerAt}
 use Rattle.rules.specs.Rows.{memo}
 use Rattle.rules.specs.laws.Bools.{true-or-false, not-both}
 use Rattle.rules.specs.laws.Lists.{Once, at-in}
@@ -45,11 +47,11 @@ row-one g j k {r} {r′} a b c d = once-at (memo g) (memo-once g) r r′ (inside
 
 -- ---- places
 -- a candidate has one place
-pub at-unique : {g : Graph} {s : ℕ} {p p′ : Place} → At g s p → At g s p′ → p .left ≡ p′ .left → p .number ≡ p′ .number → p ≡ p′
-at-unique {g} {s} {p} {p′} a a′ e f = λ t. record { left = e t; size = size t; row = row t; inner = inner t; number = f t }
+pub at-unique : {g : Graph} {group : Group} {p p′ : Place} → At g group p → At g group p′ → p .left ≡ p′ .left → p .number ≡ p′ .number → p ≡ p′
+at-unique {g} {group} {p} {p′} a a′ e f = λ t. record { left = e t; size = size t; row = row t; inner = inner t; number = f t }
   where
-    same : candidateAt g s (p .size) (p .row) (p .inner) ≡ candidateAt g s (p′ .size) (p′ .row) (p′ .inner)
-    same = sym (at-number g s p a .1) ∙ ap (metAt g s) f ∙ at-number g s p′ a′ .1
+    same : candidateAt g group (p .size) (p .row) (p .inner) ≡ candidateAt g group (p′ .size) (p′ .row) (p′ .inner)
+    same = sym (at-number g group p a .1) ∙ ap (metAt g group) f ∙ at-number g group p′ a′ .1
 
     row : p .row ≡ p′ .row
     row = row-one g (p .size) (p′ .size) (a .row-from) (a .row-to) (a′ .row-from) (a′ .row-to) (λ t. same t .candidate .driving)
@@ -57,25 +59,25 @@ at-unique {g} {s} {p} {p′} a a′ e f = λ t. record { left = e t; size = size
     size : p .size ≡ p′ .size
     size = size-one g (a .row-from) (a .row-to) (rw row (a′ .row-from)) (rw row (a′ .row-to))
 
-    inner-from : (p : Place) → At g s p → startOf g (s - p .size) ≤ p .inner
-    inner-from p a = omega (arith, a .inner-from, first-from g s (p .size) (a .from-one) (a .to-half) (p .row) (a .row-from))
+    inner-from : (p : Place) → At g group p → startOf g (innerAt group (p .size)) ≤ p .inner
+    inner-from p a = omega (arith, a .inner-from, first-from g group (p .size) (a .from-one) (a .to-last) (p .row) (a .row-from))
 
     inner : p .inner ≡ p′ .inner
-    inner = row-one g (s - p .size) (s - p′ .size) (inner-from p a) (a .inner-to) (inner-from p′ a′) (a′ .inner-to) (λ t. same t .candidate .inner)
+    inner = row-one g (innerAt group (p .size)) (innerAt group (p′ .size)) (inner-from p a) (a .inner-to) (inner-from p′ a′) (a′ .inner-to) (λ t. same t .candidate .inner)
 
-module _ {g : Graph} {s : ℕ} {h : Share} {x : ℕ} {p p′ : Place} (n : NextFrom g s h x p) (n′ : NextFrom g s h x p′) where
+module _ {g : Graph} {group : Group} {h : Share} {x : ℕ} {p p′ : Place} (n : NextFrom g group h x p) (n′ : NextFrom g group h x p′) where
   -- where one is at a pair, the other is not after it
   not-after : p .left ≡ true → p′ .number ≤ p .number
   not-after e =
-      let m : p .number < p′ .number → ⊥ = λ l. not-both (ownAt g s h (p .number)) (n .waits .there e .1) (n′ .clear (p .number) (n .ahead) l) in
+      let m : p .number < p′ .number → ⊥ = λ l. not-both (ownAt g group h (p .number)) (n .waits .there e .1) (n′ .clear (p .number) (n .ahead) l) in
       omega arith
 
   -- so it is at a pair too
   not-ended : p .left ≡ true → p′ .left ≡ false → ⊥
-  not-ended e f = omega (arith, not-after e, at-number g s p (n .waits .there e .0) .0, ap (λ (y : Place). y .number) (n′ .waits .none f))
+  not-ended e f = omega (arith, not-after e, at-number g group p (n .waits .there e .0) .0, ap (λ (y : Place). y .number) (n′ .waits .none f))
 
 -- a worker has one next place
-pub next-unique : {g : Graph} {s : ℕ} {h : Share} {x : ℕ} {p p′ : Place} → NextFrom g s h x p → NextFrom g s h x p′ → p ≡ p′
+pub next-unique : {g : Graph} {group : Group} {h : Share} {x : ℕ} {p p′ : Place} → NextFrom g group h x p → NextFrom g group h x p′ → p ≡ p′
 next-unique {p = p} {p′ = p′} n n′ = go (true-or-false (p .left)) (true-or-false (p′ .left))
   where
     go : (p .left ≡ true) ⊎ (p .left ≡ false) → (p′ .left ≡ true) ⊎ (p′ .left ≡ false) → p ≡ p′

@@ -3,14 +3,15 @@ ghost use mathlib.Core.Path.{_≡_};
 ghost use mathlib.Core.Bool.{true};
 ghost use Prim.Native.Nat.{ℕ, _+_, _*_, _-_, _/_, _≤_, _<_};
 ghost use lib.ListN.{length, getD};
-ghost use Rattle.rules.specs.Limits.{maxTables};
+ghost use Rattle.rules.specs.Schedule.{innerAt};
 ghost use Rattle.rules.specs.Sets.{holds, Lowest};
 ghost use Rattle.rules.specs.Query.{graphOf};
 ghost use Rattle.rules.specs.Checked.{GoodGraph};
 ghost use Rattle.shares.specs.Shares.{few, ShareOf, Aligned};
-ghost use Rattle.pairs.specs.Places.{firstOf, Ground, Hops, RowCells, Onward, SpanCells, Along, RowFrom, At, NextFrom, ownAt, SizesFit, countTo};
+ghost use Rattle.pairs.specs.Places.{firstOf, Fit, Ground, Hops, RowCells, Onward, SpanCells, Along, RowFrom, At, NextFrom, ownAt, Countable, countTo};
 ghost use Rattle.pairs.specs.Joinable.{isJoinable};
 use query::edges::edge_between;
+use rules::Group;
 use sets::lowest_table;
 use sets::rank_of;
 use shares::Share;
@@ -31,15 +32,26 @@ fn joinable(rows: &[u64], left: &[u64], right: &[u64], divisors: &[u64], x: u64,
     edge_between(rows, left, right, divisors, x, y)
 }
 
-// The first inner row of driving row `row` of size `size`.
-fn first_of(starts: &[usize], s: usize, size: usize, row: usize) -> usize
-    requires { ⌜ (size ≤ s) × (s - size < length (now starts)) × (row ≤ few) × (s ≤ few) ⌝ }
-    ensures { λ r. ⌜ r ≡ firstOf (now (starts .entry)) s size row ⌝ }
+// The inner size that a group joins to driving size `size`.
+pub fn inner_at(group: Group, size: usize) -> usize
+    requires { ⌜ (1 ≤ size) × (size ≤ innerAt group size) ⌝ }
+    ensures { λ r. ⌜ r ≡ innerAt group size ⌝ }
 {
-    if size + size == s {
+    if group.falling {
+        return group.base - size;
+    }
+    group.base
+}
+
+// The first inner row of driving row `row` of size `size`, whose inner rows are of size `wide`.
+fn first_of(starts: &[usize], wide: usize, size: usize, row: usize) -> usize
+    requires { ⌜ (wide < length (now starts)) × (row ≤ few) ⌝ }
+    ensures { λ r. ⌜ r ≡ firstOf (now (starts .entry)) wide size row ⌝ }
+{
+    if size == wide {
         return row + 1;
     }
-    starts[s - size]
+    starts[wide]
 }
 
 // Past the row `inner` of size `wide` to the next row that lacks the lowest table of `both`, which the row holds; `base` is the size's
@@ -138,7 +150,7 @@ pub fn find(
     skips: &[u64],
     starts: &[usize],
     cells: &[usize],
-    s: usize,
+    group: Group,
     share: Share,
     size: usize,
     row: usize,
@@ -146,24 +158,25 @@ pub fn find(
 ) -> Place
     requires { ⌜ GoodGraph (graphOf (now rows) (now left) (now right) (now divisors)) ⌝ }
     requires { ⌜ Ground (graphOf (now rows) (now left) (now right) (now divisors)) (now sets) (now skips) (now starts) (now cells) ⌝ }
-    requires { ⌜ ShareOf (graphOf (now rows) (now left) (now right) (now divisors)) s share ⌝ }
-    requires { ⌜ RowFrom (graphOf (now rows) (now left) (now right) (now divisors)) s size row ahead ⌝ }
-    ensures { λ r. ⌜ NextFrom (graphOf (now (rows .entry)) (now (left .entry)) (now (right .entry)) (now (divisors .entry))) s share ahead r ⌝ }
+    requires { ⌜ ShareOf (graphOf (now rows) (now left) (now right) (now divisors)) group share ⌝ }
+    requires { ⌜ RowFrom (graphOf (now rows) (now left) (now right) (now divisors)) group size row ahead ⌝ }
+    ensures { λ r. ⌜ NextFrom (graphOf (now (rows .entry)) (now (left .entry)) (now (right .entry)) (now (divisors .entry))) group share ahead r ⌝ }
 {
-    let half = s / 2;
+    let last = group.last;
     let mut d = size;
     let mut i = row;
     let mut j = 0usize;
     let mut number = ahead;
-    'find: while d <= half {
-        let base = starts[s - d];
-        let end = starts[s - d + 1];
+    'find: while d <= last {
+        let wide = inner_at(group, d);
+        let base = starts[wide];
+        let end = starts[wide + 1];
         let rows_from = starts[d];
         let rows_to = starts[d + 1];
-        let cell = cells[s - d];
+        let cell = cells[wide];
         while i < rows_to {
             let x = sets[i];
-            let first = first_of(starts, s, d, i);
+            let first = first_of(starts, wide, d, i);
             let own = span_of(
                 share,
                 number,
@@ -177,26 +190,27 @@ pub fn find(
                 if joinable(rows, left, right, divisors, x, sets[j]) {
                     break 'find;
                 }
-                j = onward(sets, skips, base, cell, s - d, x, j, own.step);
+                j = onward(sets, skips, base, cell, wide, x, j, own.step);
             }
             number += end - first;
             i += 1;
         }
         d += 1;
     }
-    if half < d {
+    if last < d {
         return nowhere(share.total);
     }
+    let wide = inner_at(group, d);
     Place {
         left: true,
         size: d,
         row: i,
         inner: j,
-        number: number + (j - first_of(starts, s, d, i)),
+        number: number + (j - first_of(starts, wide, d, i)),
     }
 }
 
-// The worker's first joinable pair of a size, or none.
+// The worker's first joinable pair of a group, or none.
 pub fn first_pair(
     rows: &[u64],
     left: &[u64],
@@ -206,13 +220,13 @@ pub fn first_pair(
     skips: &[u64],
     starts: &[usize],
     cells: &[usize],
-    s: usize,
+    group: Group,
     share: Share,
 ) -> Place
     requires { ⌜ GoodGraph (graphOf (now rows) (now left) (now right) (now divisors)) ⌝ }
     requires { ⌜ Ground (graphOf (now rows) (now left) (now right) (now divisors)) (now sets) (now skips) (now starts) (now cells) ⌝ }
-    requires { ⌜ ShareOf (graphOf (now rows) (now left) (now right) (now divisors)) s share × (2 ≤ s) × (s ≤ length (now rows)) ⌝ }
-    ensures { λ r. ⌜ NextFrom (graphOf (now (rows .entry)) (now (left .entry)) (now (right .entry)) (now (divisors .entry))) s share 0 r ⌝ }
+    requires { ⌜ ShareOf (graphOf (now rows) (now left) (now right) (now divisors)) group share × Fit (graphOf (now rows) (now left) (now right) (now divisors)) group ⌝ }
+    ensures { λ r. ⌜ NextFrom (graphOf (now (rows .entry)) (now (left .entry)) (now (right .entry)) (now (divisors .entry))) group share 0 r ⌝ }
 {
     find(
         rows,
@@ -223,7 +237,7 @@ pub fn first_pair(
         skips,
         starts,
         cells,
-        s,
+        group,
         share,
         1,
         starts[1],
@@ -241,21 +255,21 @@ pub fn next_pair(
     skips: &[u64],
     starts: &[usize],
     cells: &[usize],
-    s: usize,
+    group: Group,
     share: Share,
     place: Place,
 ) -> Place
     requires { ⌜ GoodGraph (graphOf (now rows) (now left) (now right) (now divisors)) ⌝ }
     requires { ⌜ Ground (graphOf (now rows) (now left) (now right) (now divisors)) (now sets) (now skips) (now starts) (now cells) ⌝ }
-    requires { ⌜ ShareOf (graphOf (now rows) (now left) (now right) (now divisors)) s share × (2 ≤ s) × (s ≤ length (now rows)) ⌝ }
-    requires { ⌜ At (graphOf (now rows) (now left) (now right) (now divisors)) s place × (ownAt (graphOf (now rows) (now left) (now right) (now divisors)) s share (place .number) ≡ true) ⌝ }
-    ensures { λ r. ⌜ NextFrom (graphOf (now (rows .entry)) (now (left .entry)) (now (right .entry)) (now (divisors .entry))) s share (place .number + 1) r ⌝ }
+    requires { ⌜ ShareOf (graphOf (now rows) (now left) (now right) (now divisors)) group share × Fit (graphOf (now rows) (now left) (now right) (now divisors)) group ⌝ }
+    requires { ⌜ At (graphOf (now rows) (now left) (now right) (now divisors)) group place × (ownAt (graphOf (now rows) (now left) (now right) (now divisors)) group share (place .number) ≡ true) ⌝ }
+    ensures { λ r. ⌜ NextFrom (graphOf (now (rows .entry)) (now (left .entry)) (now (right .entry)) (now (divisors .entry))) group share (place .number + 1) r ⌝ }
 {
     let d = place.size;
     let i = place.row;
     let j = place.inner;
     let number = place.number;
-    let wide = s - d;
+    let wide = inner_at(group, d);
     let end = starts[wide + 1];
     let own = span_on(share, number, j, end);
     let next = along(
@@ -289,7 +303,7 @@ pub fn next_pair(
         skips,
         starts,
         cells,
-        s,
+        group,
         share,
         d,
         i + 1,
@@ -297,17 +311,18 @@ pub fn next_pair(
     )
 }
 
-// How many candidates a size has.
-pub fn count_candidates(starts: &[usize], s: usize) -> usize
-    requires { ⌜ (2 ≤ s) × (s < length (now starts)) × (s ≤ maxTables) × SizesFit (now starts) s ⌝ }
-    ensures { λ r. ⌜ r ≡ countTo (now (starts .entry)) s (s / 2) ⌝ }
+// How many candidates a group has.
+pub fn count_candidates(starts: &[usize], group: Group) -> usize
+    requires { ⌜ Countable (now starts) group ⌝ }
+    ensures { λ r. ⌜ r ≡ countTo (now (starts .entry)) group (group .last) ⌝ }
 {
     let mut count = 0usize;
-    for k in 0..s / 2 {
+    for k in 0..group.last {
         let d = k + 1;
+        let wide = inner_at(group, d);
         let driving = starts[d + 1] - starts[d];
-        let inner = starts[s - d + 1] - starts[s - d];
-        if d + d == s {
+        let inner = starts[wide + 1] - starts[wide];
+        if d == wide {
             count += (driving * driving - driving) / 2;
         } else {
             count += driving * inner;

@@ -1,2 +1,2 @@
-// A worker's next joinable pair: the search through the candidates of a size from a place on.
+// A worker's next joinable pair: the search through the candidates of a group from a place on.
 pub mod find;

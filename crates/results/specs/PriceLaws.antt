@@ -11,10 +11,12 @@ use lib.Dec.{ltb, leb}
 use lib.ListN.{length, getD, set}
 use lib.Seq.{set-getD}
 use Rattle.rules.specs.Limits.{maxFixed, maxCoefficient}
-use Rattle.rules.specs.laws.Choice as order
+use Rattle.rules.specs.Offers as rules
+use Rattle.rules.specs.Offers.{Pair, sides, Priced, Offered}
 use Rattle.rules.specs.laws.Choice.{Best, best-keep, best-take}
-use Rattle.rules.specs.laws.Reference.{sooner, better, better-first}
-use Rattle.results.specs.Prices.{choiceAt, kept, priceBy, packed, lesser, Methods, Estimates, Cheapest, OneWay, BothWays}
+use Rattle.rules.specs.laws.Ways.{both-sides, one-side}
+use Rattle.rules.specs.laws.Reference.{sooner, better, better-first, kept}
+use Rattle.results.specs.Prices.{choiceAt, priceBy, packed, lesser, Methods, Estimates, Cheapest, joinBy}
 
 -- ---- the lesser of two
 pub lesser-new : {a b : ℕ} → b < a → b ≡ lesser a b
@@ -24,7 +26,7 @@ pub lesser-old : {a b : ℕ} → a ≤ b → a ≡ lesser a b
 lesser-old {a} {b} l = rw (le-ltb b a l)
 
 -- ---- the order of two choices
-module _ (a b : order.Choice) where
+module _ (a b : rules.Choice) where
   -- costs that differ decide
   pub sooner-cost : (a .cost ≡ b .cost → ⊥) → ltb (a .cost) (b .cost) ≡ sooner a b
   unfolding sooner
@@ -55,9 +57,9 @@ module _ (a b : order.Choice) where
   kept-new n e = rw (ne-eqb _ _ n, e)
 
 -- ---- a row, as its three columns
-module _ (costs outers methods : List ℕ) (row : ℕ) (new : order.Choice) where
+module _ (costs outers methods : List ℕ) (row : ℕ) (new : rules.Choice) where
   -- what the row keeps of what it holds and a new choice
-  abbrev keeps : order.Choice
+  abbrev keeps : rules.Choice
   keeps = kept (choiceAt costs outers methods row) new
 
   -- a row that keeps what it holds is unchanged
@@ -119,17 +121,19 @@ module _ {fixed outer inner result : List ℕ} {ex ey er : ℕ} where
 
 -- ---- the best way to join two sets
 -- a packed price and its method, as a choice
-abbrev unpack : ℕ → ℕ → ℕ → order.Choice
+abbrev unpack : ℕ → ℕ → ℕ → rules.Choice
 unpack x base r = record { cost = base + r / 8; outer = x; method = r % 8 }
 
 module _ {fixed outer inner result : List ℕ} (ms : Methods fixed outer inner result) where
-  -- the cheapest method is the best choice of one outer set
-  unpacked : (x ex ey er base r : ℕ) → Cheapest fixed outer inner result ex ey er r → Best (OneWay fixed outer inner result x ex ey er base) (unpack x base r)
-  unpacked x ex ey er base r c = record {
-    among = record { outer-is = refl; from-one = omega (arith, number); to-count = omega (arith, number); costs = omega (arith, price, ap (priceBy fixed outer inner result ex ey er) number) };
+  -- the cheapest method is the best choice of one way round
+  unpacked : (cost : ℕ → ℕ → ℕ → ℕ) (x y ex ey er base r : ℕ) → ((m : ℕ) → cost x y m ≡ base + priceBy fixed outer inner result ex ey er m) → Cheapest fixed outer inner result ex ey er r
+      → Best (Priced (length fixed) cost x y) (unpack x base r)
+  unpacked cost x y ex ey er base r is c = record {
+    among = record { outer = refl; from-one = omega (arith, number); to-count = omega (arith, number); costs = omega (arith, price, is (r % 8), ap (priceBy fixed outer inner result ex ey er) number) };
     first = λ k h.
         let l = c .least (k .method) (h .from-one) (h .to-count) in
         let few : k .method ≤ 4 = omega (arith, ms .few) in
+        let f : k .cost ≡ base + priceBy fixed outer inner result ex ey er (k .method) = h .costs ∙ is (k .method) in
         record { by-cost = omega arith; by-outer = λ _. omega arith; by-method = λ e _. omega arith };
   }
     where
@@ -139,16 +143,33 @@ module _ {fixed outer inner result : List ℕ} (ms : Methods fixed outer inner r
       price : r / 8 ≡ priceBy fixed outer inner result ex ey er (c .method)
       price = omega arith
 
-  module _ (x y ex ey er base d t : ℕ) (p : Cheapest fixed outer inner result ex ey er d) (q : Cheapest fixed outer inner result ey ex er t) {b : Bool} (e : b ≡ sooner (unpack x base d) (unpack y base t)) where
-    -- the first outer set's best stands no later than the second's: it is the best of both
-    pub first-best : b ≡ true → Best (BothWays fixed outer inner result x y ex ey er base) (unpack x base d)
-    unfolding better
-    first-best f = best-keep (unpacked x ex ey er base d p) (unpacked y ey ex er base t q) (rw (sym e ∙ f) at (better-first (unpack x base d) (unpack y base t) .1))
+  module _ (x y ex ey er base : ℕ) (differ : x ≡ y → ⊥) where
+    abbrev pair : Pair
+    pair = record { driving = x; inner = y }
 
-    -- it stands later: the second's is
-    pub second-best : b ≡ false → Best (BothWays fixed outer inner result x y ex ey er base) (unpack y base t)
-    unfolding better
-    second-best f = best-take (unpacked x ex ey er base d p) (unpacked y ey ex er base t q) (rw (sym e ∙ f) at (better-first (unpack x base d) (unpack y base t) .0))
+    abbrev cost : ℕ → ℕ → ℕ → ℕ
+    cost = joinBy fixed outer inner result x ex ey er base
+
+    first-is : (d : ℕ) → Cheapest fixed outer inner result ex ey er d → Best (Priced (length fixed) cost x y) (unpack x base d)
+    first-is d p = unpacked cost x y ex ey er base d (λ m. rw (eq-eqb x x refl) refl) p
+
+    second-is : (t : ℕ) → Cheapest fixed outer inner result ey ex er t → Best (Priced (length fixed) cost y x) (unpack y base t)
+    second-is t q = unpacked cost y x ey ex er base t (λ m. rw (ne-eqb y x (λ e. differ (sym e))) refl) q
+
+    -- only the second outer set is priced
+    pub only-best : (t : ℕ) → Cheapest fixed outer inner result ey ex er t → {both : Bool} → both ≡ false → Best (Offered (sides both pair) (length fixed) cost) (unpack y base t)
+    only-best t q n = rw n (one-side (second-is t q))
+
+    module _ (d t : ℕ) (p : Cheapest fixed outer inner result ex ey er d) (q : Cheapest fixed outer inner result ey ex er t) {b : Bool} (e : b ≡ sooner (unpack x base d) (unpack y base t)) where
+      -- the first outer set's best stands no later than the second's: it is the best of both
+      pub first-best : {both : Bool} → both ≡ true → b ≡ true → Best (Offered (sides both pair) (length fixed) cost) (unpack x base d)
+      unfolding better
+      first-best o f = rw o (both-sides (best-keep (first-is d p) (second-is t q) (rw (sym e ∙ f) at (better-first (unpack x base d) (unpack y base t) .1))))
+
+      -- it stands later: the second's is
+      pub second-best : {both : Bool} → both ≡ true → b ≡ false → Best (Offered (sides both pair) (length fixed) cost) (unpack y base t)
+      unfolding better
+      second-best o f = rw o (both-sides (best-take (first-is d p) (second-is t q) (rw (sym e ∙ f) at (better-first (unpack x base d) (unpack y base t) .0))))
 
 -- ---- the arithmetic of the methods one by one
 -- not the last one yet: there is one more

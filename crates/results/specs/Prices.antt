@@ -1,6 +1,5 @@
--- The choices that a pair offers, over plain numbers, and what a row keeps.
+-- What a choice and a row are in the code's values, and prices over plain numbers.
 use mathlib.Core.Path.{_≡_}
-use mathlib.Core.Logic.{_⊎_}
 use mathlib.Core.Bool.{cond}
 use mathlib.Core.List.{List}
 use Prim.Native.Nat.{ℕ, _+_, _*_, _≤_}
@@ -8,21 +7,16 @@ use lib.Dec.{eqb, ltb}
 use lib.ListN.{length, getD}
 use Rattle.rules.specs.Limits.{maxMethods, maxFixed, maxCoefficient, maxEstimate}
 use Rattle.rules.specs.Query.{at}
-use Rattle.rules.specs.laws.Choice as order
-use Rattle.rules.specs.laws.Reference.{better}
+use Rattle.rules.specs.Offers as rules
 use Rattle.results.specs.declared.price.Choice.{Choice}
 
--- the code's choice, as rules order it
-abbrev pub choiceOf : Choice → order.Choice
+-- the code's choice
+abbrev pub choiceOf : Choice → rules.Choice
 choiceOf k = record { cost = k .cost; outer = k .outer; method = k .method }
 
 -- what a row holds
-abbrev pub choiceAt : List ℕ → List ℕ → List ℕ → ℕ → order.Choice
+abbrev pub choiceAt : List ℕ → List ℕ → List ℕ → ℕ → rules.Choice
 choiceAt costs outers methods r = record { cost = getD costs r 0; outer = getD outers r 0; method = getD methods r 0 }
-
--- what it keeps: a row without an outer set holds nothing yet
-abbrev pub kept : order.Choice → order.Choice → order.Choice
-kept old new = cond (eqb (old .outer) 0) new (better old new)
 
 -- "fixed + a·est(X) + b·est(Y) + c·est(X and Y together)", by method m
 abbrev pub priceBy : List ℕ → List ℕ → List ℕ → List ℕ → ℕ → ℕ → ℕ → ℕ → ℕ
@@ -62,13 +56,6 @@ pub record Cheapest (fixed outer inner result : List ℕ) (ex ey er r : ℕ) : T
   pub is : r ≡ priceBy fixed outer inner result ex ey er method * 8 + method
   pub least : (m : ℕ) → 1 ≤ m → m ≤ length fixed → r ≤ priceBy fixed outer inner result ex ey er m * 8 + m
 
--- k joins outer x to the other set by some method
-pub record OneWay (fixed outer inner result : List ℕ) (x ex ey er base : ℕ) (k : order.Choice) : Type 0 where
-  pub outer-is : k .outer ≡ x
-  pub from-one : 1 ≤ k .method
-  pub to-count : k .method ≤ length fixed
-  pub costs : k .cost ≡ base + priceBy fixed outer inner result ex ey er (k .method)
-
--- "Both outer choices and all methods"
-abbrev pub BothWays : List ℕ → List ℕ → List ℕ → List ℕ → ℕ → ℕ → ℕ → ℕ → ℕ → ℕ → order.Choice → Type 0
-BothWays fixed outer inner result x y ex ey er base k = OneWay fixed outer inner result x ex ey er base k ⊎ OneWay fixed outer inner result y ey ex er base k
+-- what outer X costs by method m, the other set being the inner one: the two cost `base`, x has the estimate ex, the other one ey, their result er
+abbrev pub joinBy : List ℕ → List ℕ → List ℕ → List ℕ → ℕ → ℕ → ℕ → ℕ → ℕ → ℕ → ℕ → ℕ → ℕ
+joinBy fixed outer inner result x ex ey er base X Y m = base + cond (eqb X x) (priceBy fixed outer inner result ex ey er m) (priceBy fixed outer inner result ey ex er m)

@@ -2,7 +2,8 @@
 ghost use mathlib.Core.Path.{_≡_};
 ghost use Prim.Native.Nat.{_<_};
 ghost use lib.ListN.{length, set};
-ghost use Rattle.results.specs.Prices.{choiceOf, choiceAt, kept};
+ghost use Rattle.rules.specs.laws.Reference.{kept};
+ghost use Rattle.results.specs.Prices.{choiceOf, choiceAt};
 use super::price::Choice;
 use super::price::sooner;
 

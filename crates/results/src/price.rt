@@ -2,9 +2,11 @@
 ghost use mathlib.Core.Path.{_≡_};
 ghost use Prim.Native.Nat.{_+_, _<_, _≤_};
 ghost use Rattle.rules.specs.Limits.{maxFixed, maxCoefficient, costBound};
+ghost use lib.ListN.{length};
+ghost use Rattle.rules.specs.Offers.{sides, Offered};
 ghost use Rattle.rules.specs.laws.Choice.{Best};
 ghost use Rattle.rules.specs.laws.Reference.{sooner};
-ghost use Rattle.results.specs.Prices.{choiceOf, packed, lesser, Methods, Estimates, Cheapest, BothWays};
+ghost use Rattle.results.specs.Prices.{choiceOf, packed, lesser, Methods, Estimates, Cheapest, joinBy};
 
 // One way to join a pair: its cost, the outer set, the method.
 pub struct Choice {
@@ -96,12 +98,13 @@ fn cheapest(
     )
 }
 
-// The best way to join the sets `x` and `y`, either as the outer one; `base` is what the two cost.
+// The best way to join two sets, either as the outer one, or only `y` if not `both`; `base` is what the two cost.
 pub fn price(
     fixed: &[u64],
     outer: &[u64],
     inner: &[u64],
     result: &[u64],
+    both: bool,
     x: u64,
     y: u64,
     ex: u64,
@@ -111,19 +114,23 @@ pub fn price(
 ) -> Choice
     requires { ⌜ Methods (now fixed) (now outer) (now inner) (now result) × Estimates ex ey er ⌝ }
     requires { ⌜ base < costBound + costBound ⌝ }
-    ensures { λ r. ⌜ Best (BothWays (now (fixed .entry)) (now (outer .entry)) (now (inner .entry)) (now (result .entry)) x y ex ey er base) (choiceOf r) ⌝ }
+    requires { ⌜ (x ≡ y → ⊥) ⌝ }
+    ensures { λ r. ⌜ Best (Offered (sides both (record { driving = x; inner = y })) (length (now (fixed .entry))) (joinBy (now (fixed .entry)) (now (outer .entry)) (now (inner .entry)) (now (result .entry)) x ex ey er base)) (choiceOf r) ⌝ }
 {
-    let driving = cheapest(fixed, outer, inner, result, ex, ey, er);
     let turned = cheapest(fixed, outer, inner, result, ey, ex, er);
-    let first = Choice {
-        cost: base + driving / SHIFT,
-        outer: x,
-        method: driving % SHIFT,
-    };
     let second = Choice {
         cost: base + turned / SHIFT,
         outer: y,
         method: turned % SHIFT,
+    };
+    if !both {
+        return second;
+    }
+    let driving = cheapest(fixed, outer, inner, result, ex, ey, er);
+    let first = Choice {
+        cost: base + driving / SHIFT,
+        outer: x,
+        method: driving % SHIFT,
     };
     if sooner(first, second) {
         return first;

@@ -1,23 +1,30 @@
--- A worker's share of a size as it walks it: for each driving row, the inner rows that it has.
+-- A worker's share of a group as it walks it: for each driving row, the inner rows that it has.
 use mathlib.Core.Path.{_≡_}
 use mathlib.Core.Bool.{Bool, cond, _&&_}
 use Prim.Native.Nat.{ℕ, _+_, _-_, _^_, _%_, _≤_, _<_}
 use lib.Dec.{eqb, leb, ltb}
 use lib.ListN.{length}
 use Rattle.rules.specs.Limits.{maxWorkers}
+use Rattle.rules.specs.declared.Crew.{Crew}
 use Rattle.rules.specs.declared.Scheme.{Scheme}
 use Rattle.rules.specs.declared.Scheme.the-variants.{CutCandidates, CutRows, DealRows, DealInner}
+use Rattle.rules.specs.declared.Group.{Group}
 use Rattle.rules.specs.Query.{Graph}
 use Rattle.rules.specs.Shares.{cut, inCut, met}
 use Rattle.shares.specs.declared.Share.{Share}
 use Rattle.shares.specs.declared.Span.{Span}
 
--- no size has more candidates, and no memo more rows
+-- no group has more candidates, and no memo more rows
 abbrev pub few : ℕ
 few = 2 ^ 40
 
-abbrev pub shareOf : Scheme → ℕ → ℕ → ℕ → Share
-shareOf scheme m w T = record { scheme = scheme; workers = m; worker = w; total = T; from = cut T m w; to = cut T m (w + 1) }
+-- worker w's share of T candidates
+abbrev pub shareOf : Crew → ℕ → ℕ → Share
+shareOf crew w T = record { scheme = crew .scheme; workers = crew .workers; worker = w; total = T; from = cut T (crew .workers) w; to = cut T (crew .workers) (w + 1) }
+
+-- the crew that a share is of
+abbrev pub crewOf : Share → Crew
+crewOf h = record { workers = h .workers; scheme = h .scheme }
 
 -- what the arithmetic of shares asks
 pub record ShareFits (h : Share) : Type 0 where
@@ -28,12 +35,12 @@ pub record ShareFits (h : Share) : Type 0 where
   pub from : h .from ≤ few
   pub to : h .to ≤ few
 
--- h is a worker's share of result size s
-pub record ShareOf (g : Graph) (s : ℕ) (h : Share) : Type 0 where
+-- h is a worker's share of the group
+pub record ShareOf (g : Graph) (group : Group) (h : Share) : Type 0 where
   pub some-worker : 1 ≤ h .workers
   pub few-workers : h .workers ≤ maxWorkers
   pub worker : h .worker < h .workers
-  pub is : h ≡ shareOf (h .scheme) (h .workers) (h .worker) (length (met g s))
+  pub is : h ≡ shareOf (crewOf h) (h .worker) (length (met g group))
 
 -- every step-th inner row from `from` on, below `end`
 abbrev pub spans : ℕ → ℕ → ℕ → Span

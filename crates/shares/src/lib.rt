@@ -1,14 +1,15 @@
-// Shares of a size's candidates, "before any test": which inner rows of a driving row a worker has.
+// Shares of a group's candidates, "before any test": which inner rows of a driving row a worker has.
 ghost use mathlib.Core.Path.{_≡_};
 ghost use Prim.Native.Nat.{_+_, _-_, _≤_, _<_};
 ghost use Rattle.rules.specs.Limits.{maxWorkers};
 ghost use Rattle.rules.specs.Shares.{cut, inCut};
 ghost use Rattle.shares.specs.Shares.{few, ShareFits, spanOf, onSpan, allSpan, clipped, shareOf};
+use rules::Crew;
 use rules::Scheme;
 
 pub mod places;
 
-// A worker's share of one size: the scheme, how many workers, which of them, how many candidates, and its cut of them.
+// A worker's share of one group: the scheme, how many workers, which of them, how many candidates, and its cut of them.
 pub struct Share {
     pub scheme: Scheme,
     pub workers: usize,
@@ -43,11 +44,13 @@ fn in_cut(rows: usize, workers: usize, worker: usize, row: usize) -> bool
     false
 }
 
-// A worker's share of a size of `total` candidates.
-pub fn share_of(scheme: Scheme, workers: usize, worker: usize, total: usize) -> Share
-    requires { ⌜ (1 ≤ workers) × (worker < workers) × (workers ≤ maxWorkers) × (total ≤ few) ⌝ }
-    ensures { λ r. ⌜ r ≡ shareOf scheme workers worker total ⌝ }
+// A worker's share of a group of `total` candidates.
+pub fn share_of(crew: Crew, worker: usize, total: usize) -> Share
+    requires { ⌜ (1 ≤ crew .workers) × (worker < crew .workers) × (crew .workers ≤ maxWorkers) × (total ≤ few) ⌝ }
+    ensures { λ r. ⌜ r ≡ shareOf crew worker total ⌝ }
 {
+    let scheme = crew.scheme;
+    let workers = crew.workers as usize;
     Share {
         scheme: scheme,
         workers: workers,

@@ -1,8 +1,8 @@
-// Places among the candidates of a size: a driving row and an inner row, both as rows of the memo.
+// Places among the candidates of a group: a driving row and an inner row, both as rows of the memo.
 ghost use mathlib.Core.Path.{_≡_};
 ghost use Rattle.shares.specs.Nowhere.{nowhere};
 
-// Where a worker stands: at its next joinable pair, or, with none left, at the end of the size's candidates.
+// Where a worker stands: at its next joinable pair, or, with none left, at the end of the group's candidates.
 pub struct Place {
     pub left: bool,
     pub size: usize,

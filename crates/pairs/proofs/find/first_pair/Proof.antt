@@ -14,7 +14,7 @@ find-requires c κs =
     let g = graphOf (s .args .rows .now) (s .args .left .now) (s .args .right .now) (s .args .divisors .now) in
     let p = s .pre .1 in
     let r = p .1 in
-    (s .pre .0, (p .0, (r .0, rw (p .0 .starts-known 1 (omega arith) (omega arith)) (first-row g (s .args .s) (r .1) (r .2)))))
+    (s .pre .0, (p .0, (r .0, rw (p .0 .starts-known 1 (omega arith) (omega arith)) (first-row g (s .args .group) (r .1)))))
 
 returns : tie.Need-returns
 returns c = search needs
