@@ -1,6 +1,6 @@
--- What a turn is, how the memo stands between turns, and the theorems of a size.
+-- What a turn is, how the memo stands between turns, and the theorems of a group.
+pub mod Index
 pub mod Standing
-pub mod PassedLaws
 pub mod QueueLaws
 pub mod StandingLaws
 pub mod StepLaws

@@ -8,20 +8,26 @@ use native.Mathlib.Decide.{decLt}
 use native.Mathlib.Omega.{arith}
 use lib.ListN.{length, getD, set, take, length-take, replicate, length-replicate, getD-replicate}
 use lib.Seq.{take-suc, getD-set-other}
-use Rattle.rules.specs.Limits.{maxFixed, maxCoefficient}
+use Rattle.rules.specs.Limits.{maxFixed, maxCoefficient, costBound}
 use Rattle.rules.specs.Sets.{size, single}
-use Rattle.rules.specs.Query.{Graph, Query, tableCount, methodCount, at}
+use Rattle.rules.specs.Query.{Graph, Query, IsTable, tableCount, methodCount, at}
+use Rattle.rules.specs.declared.Group.{Group}
+use Rattle.rules.specs.Schedule.{Schedule}
+use Rattle.rules.specs.declared.Crew.{Crew}
+use Rattle.rules.specs.Connected.{Connected}
+use Rattle.rules.specs.laws.Progress as progress
+use Rattle.rules.specs.laws.Rows.{rows-all, memo-all, memo-only, memo-once}
+use Rattle.pairs.specs.UniqueLaws.{once-at}
 use Rattle.rules.specs.Estimate.{estimate}
 use Rattle.rules.specs.Rows.{rowsOf, memo}
 use Rattle.rules.specs.Skips.{skips}
 use Rattle.rules.specs.Checked.{GoodGraph, Sound}
 use Rattle.rules.specs.laws.Bools.{true-yes}
-use Rattle.rules.specs.laws.Lists.{length-map, over-at}
-use Rattle.rules.specs.laws.Sets.{size-pow}
+use Rattle.rules.specs.laws.Lists.{length-map, over-at, at-in, in-at}
+use Rattle.rules.specs.laws.Sets.{size-pow, size-pos}
 use Rattle.rules.specs.laws.Connected.{connected-single}
 use Rattle.rules.specs.laws.Decide.{connected?}
 use Rattle.rules.specs.laws.Estimate.{least-below}
-use Rattle.rules.specs.laws.Memo.{one-least}
 use Rattle.graph.specs.Walk.{walk}
 use Rattle.rows.specs.Sizes.{upTo}
 use Rattle.rows.specs.WalkLaws.{walk-hit, walk-few, walk-step, rows-start, upTo-none}
@@ -29,18 +35,21 @@ use Rattle.skips.specs.Vectors.{written}
 use Rattle.starts.specs.Starts.{countsTo, starts, cellsTo, cellStarts}
 use Rattle.memo.specs.LayoutLaws.{written-over, front, still-long}
 use Rattle.starts.specs.CountLaws.{written-push, counts-at, length-starts}
-use Rattle.pairs.specs.Places.{startOf, Ground}
-use Rattle.pairs.specs.PlaceLaws.{start-next, start-memo, memo-row}
+use Rattle.pairs.specs.Places.{startOf, Fit, Ground}
+use Rattle.pairs.specs.PlaceLaws.{start-next, start-mono, start-memo, memo-inside, memo-row}
 use Rattle.results.specs.Prices.{Methods}
-use Rattle.turns.specs.Standing.{Columns, choiceIn, Reach, Board, FinalRow, Final}
+use Rattle.turns.specs.Standing.{Columns, choiceIn, rowIn, topOf, resultAt, Reach, Board, Handing, Final}
+use Rattle.crew.specs.declared.Worker.{Worker}
+use Rattle.crew.specs.declared.Handed as code
+use Rattle.turns.specs.Index.{indexOf, index-at}
 
 -- ---- lists
 -- a list copied to the front of another: one more of its values
-pub copied-more : (s d : List ℕ) (i : ℕ) {l : List ℕ} → i < length s → l ≡ written d 0 (take i s) → set l i (getD s i 0) ≡ written d 0 (take (i + 1) s)
-copied-more s d i h e =
+pub copied-more : (v d : List ℕ) (i : ℕ) {l : List ℕ} → i < length v → l ≡ written d 0 (take i v) → set l i (getD v i 0) ≡ written d 0 (take (i + 1) v)
+copied-more v d i h e =
     rw e (
-    written-push d 0 i (take i s) (getD s i 0) (omega (arith, length-take i s))
-    ∙ ap (written d 0) (sym (ap (λ (k : ℕ). take k s) (add-one i) ∙ take-suc s i 0 h))
+    written-push d 0 i (take i v) (getD v i 0) (omega (arith, length-take i v))
+    ∙ ap (written d 0) (sym (ap (λ (k : ℕ). take k v) (add-one i) ∙ take-suc v i 0 h))
     )
 
 -- what stands in the written part, and behind it
@@ -113,6 +122,40 @@ module _ (g : Graph) where
   pub tables-fit : GoodGraph g → tableCount g ≤ length (memo g)
   tables-fit good = omega (arith, start-two, start-memo g 2 (omega (arith, good .some-table)))
 
+-- the row of a pair's result is one of the memo
+pub handing-inside : {g : Graph} {fixed outer inner result : List ℕ} {group : Group} {v v′ : Worker} {old new : Columns} {pair : code.Handed} (h : Handing g fixed outer inner result group v v′ old new pair) → h .row < length (memo g)
+handing-inside {g} {group = group} {v = v} h = go (resultAt group (v .place .size)) (h .row-from) (h .row-to)
+  where
+    go : (z : ℕ) → startOf g z ≤ h .row → h .row < startOf g (z + 1) → h .row < length (memo g)
+    go zero a b = let e : 0 + 1 ≡ 1 = omega arith in absurd (omega (arith, start-one g, ap (startOf g) e))
+    go (suc z) a b = memo-inside g (suc z) (h .row) (omega arith) a b
+
+-- a set's row stands among those of its size
+there : (g : Graph) (S : ℕ) → Connected g S → (r : ℕ) → r < length (memo g) → getD (memo g) r 0 ≡ S → (startOf g (size S) ≤ r) × (r < startOf g (size S + 1))
+there g S d r h e =
+    let one = size-pos S (d .some) in
+    let i = in-at 0 (rowsOf g (size S)) S (rows-all g S d) in
+    let p = startOf g (size S) + i .0 in
+    let n = start-next g (size S) one in
+    let b : p < startOf g (size S + 1) = omega (arith, n, i .1) in
+    let f : p - startOf g (size S) ≡ i .0 = omega arith in
+    let m : getD (memo g) p 0 ≡ S = memo-row g (size S) p one (omega arith) b ∙ ap (λ (x : ℕ). getD (rowsOf g (size S)) x 0) f ∙ i .2 in
+    let x : r ≡ p = once-at (memo g) (memo-once g) r p h (memo-inside g (size S) p one (omega arith) b) (e ∙ sym m) in
+    (omega arith, omega arith)
+
+-- a row before those of k + 1 tables has at most k
+pub row-small : (g : Graph) (k r : ℕ) → r < length (memo g) → r < startOf g (k + 1) → size (getD (memo g) r 0) ≤ k
+row-small g k r h l =
+    let S = getD (memo g) r 0 in
+    let d = memo-only g S (at-in 0 (memo g) r h) in
+    let i = in-at 0 (rowsOf g (size S)) S (rows-all g S d) in
+    let a : startOf g (size S) ≤ r = there g S d r h refl .0 in
+    go (decLt k (size S)) a
+  where
+    go : Dec (k < size (getD (memo g) r 0)) → startOf g (size (getD (memo g) r 0)) ≤ r → size (getD (memo g) r 0) ≤ k
+    go (yes u) a = absurd (omega (arith, start-mono g (k + 1) (size (getD (memo g) r 0)) (omega arith)))
+    go (no u) a = omega arith
+
 -- ---- what the columns hold before the first turn
 -- as laying out leaves them, with the scan costs
 pub record Starting (q : Query) (oldCosts oldOuters oldMethods : List ℕ) (c : Columns) : Type 0 where
@@ -148,30 +191,30 @@ module _ (q : Query) (sound : Sound q) {oldCosts oldOuters oldMethods : List ℕ
   no-method : (r : ℕ) → r < rows → getD (c .methods) r 0 ≡ 0
   no-method r h = ap (λ (x : List ℕ). getD x r 0) (z .methods-are) ∙ cleared rows oldMethods r (z .methods-room) h
 
-  one-final : (r : ℕ) → r < tableCount (q .graph) → FinalRow q (single (r + 1)) (choiceIn c r)
-  one-final r l =
-      let e : r + 1 - 1 ≡ r = omega arith in
-      let k : getD (c .costs) r 0 ≡ at (q .scans) (r + 1) = cost-one r l ∙ sym (ap (λ (x : ℕ). getD (q .scans) x 0) e) in
-      let h : r < rows = omega (arith, tables-fit (q .graph) (sound .graph)) in
-      let n : size (single (r + 1)) ≡ 1 = size-pow (r + 1 - 1) in
-      record {
-        least = rw k (one-least q (r + 1) (record { from-one = omega arith; to-count = omega arith }));
-        one = λ _. (no-outer r h, no-method r h);
-        more = λ two. absurd (omega arith);
-      }
-
   -- the rows of one table are final, the others unset
-  pub final-start : Final q 2 c
-  final-start = record {
-    smaller = λ r l.
-        let h : r < tableCount (q .graph) = omega (arith, start-two (q .graph)) in
-        rw (memo-one (q .graph) r h) (one-final r h);
-    larger = λ r l h. λ t. record {
-      cost = cost-more r (omega (arith, start-two (q .graph))) h t;
-      outer = no-outer r h t;
-      method = no-method r h t;
-    };
-  }
+  pub final-start : (crew : Crew) (groups : Schedule) → Final q crew groups 1 c
+  final-start crew groups = progress.between-start q crew groups (rowIn (q .graph) c) scans none
+    where
+      scans : (t : ℕ) → IsTable (q .graph) t → rowIn (q .graph) c (single t) ≡ record { cost = at (q .scans) t; outer = 0; method = 0 }
+      scans t i =
+          let r = t - 1 in
+          let e : r + 1 ≡ t = omega (arith, i .from-one) in
+          let l : r < tableCount (q .graph) = omega (arith, i .from-one, i .to-count) in
+          let h : r < rows = omega (arith, tables-fit (q .graph) (sound .graph)) in
+          let x : indexOf (memo (q .graph)) (single t) ≡ r = index-at (memo (q .graph)) (memo-once (q .graph)) r (single t) h (memo-one (q .graph) r l ∙ ap single e) in
+          rw x (λ z. record { cost = cost-one r l z; outer = no-outer r h z; method = no-method r h z })
+
+      none : (S : ℕ) → Connected (q .graph) S → 1 < size S → rowIn (q .graph) c S ≡ progress.unset
+      none S d l =
+          let i = in-at 0 (memo (q .graph)) S (memo-all (q .graph) S d) in
+          let r = i .0 in
+          let x : indexOf (memo (q .graph)) S ≡ r = index-at (memo (q .graph)) (memo-once (q .graph)) r S (i .1) (i .2) in
+          let large : tableCount (q .graph) ≤ r = go r (i .1) (i .2) (decLt r (tableCount (q .graph))) in
+          rw x (λ z. record { cost = cost-more r large (i .1) z; outer = no-outer r (i .1) z; method = no-method r (i .1) z })
+        where
+          go : (r : ℕ) → r < rows → getD (memo (q .graph)) r 0 ≡ S → Dec (r < tableCount (q .graph)) → tableCount (q .graph) ≤ r
+          go r u e (yes v) = absurd (omega (arith, size-pow (r + 1 - 1), ap size (sym (memo-one (q .graph) r v) ∙ e)))
+          go r u e (no v) = omega arith
 
   -- the columns have all rows of the memo
   pub reach-start : Reach (q .graph) c
@@ -245,17 +288,25 @@ methods-of q z =
       result-fits = all-fit (q .perResult) n maxCoefficient (z .result-list) (λ i l. z .methods i l .result);
     }
 
--- with the smaller sizes final, as `Final` and `Standing` say, a turn of size s may be taken
-pub board-of : {q : Query} {sets estimates cells starts cellStarts : List ℕ} {s : ℕ} {c : Columns} → Prepared q sets estimates cells starts cellStarts → 2 ≤ s → s ≤ tableCount (q .graph) → Reach (q .graph) c
-    → ((r : ℕ) → r < startOf (q .graph) s → FinalRow q (getD (memo (q .graph)) r 0) (choiceIn c r))
-    → Board (q .graph) (q .fixed) (q .perOuter) (q .perInner) (q .perResult) sets estimates cells starts cellStarts s c
-board-of {q} {s = s} {c = c} p two known reach smaller = record {
+-- with the sets that the group reads final, as `Final` and `Standing` say, a turn of it may be taken
+pub board-of : {q : Query} {sets estimates cells starts cellStarts : List ℕ} {group : Group} {c : Columns} → Prepared q sets estimates cells starts cellStarts → Fit (q .graph) group → topOf group ≤ tableCount (q .graph) → Reach (q .graph) c
+    → ((S : ℕ) → Connected (q .graph) S → size S ≤ topOf group → progress.FinalRow q S (rowIn (q .graph) c S))
+    → Board (q .graph) (q .fixed) (q .perOuter) (q .perInner) (q .perResult) sets estimates cells starts cellStarts group c
+board-of {q} {group = group} {c = c} p fit top reach final = record {
   graph = p .sound .graph;
-  two = two;
-  known = known;
+  fit = fit;
   methods = methods-of q (p .sound);
   ground = p .ground;
   estimated = p .estimated;
   reach = reach;
-  below = λ r l. least-below q (p .sound) (getD (memo (q .graph)) r 0) (getD (c .costs) r 0) (smaller r l .least);
+  below = below;
 }
+  where
+    below : (r : ℕ) → r < startOf (q .graph) (topOf group + 1) → getD (c .costs) r 0 < costBound
+    below r l =
+        let h : r < length (memo (q .graph)) = omega (arith, start-memo (q .graph) (topOf group + 1) (omega arith)) in
+        let S = getD (memo (q .graph)) r 0 in
+        let d = memo-only (q .graph) S (at-in 0 (memo (q .graph)) r h) in
+        let x : indexOf (memo (q .graph)) S ≡ r = index-at (memo (q .graph)) (memo-once (q .graph)) r S h refl in
+        let f : progress.FinalRow q S (choiceIn c r) = rw x at (final S d (row-small (q .graph) (topOf group) r h l)) in
+        least-below q (p .sound) S (getD (c .costs) r 0) (f .least)

@@ -1,33 +1,32 @@
 -- Any two answers that the contracts of places, turns, opening, lowest workers and prices allow are equal.
 use mathlib.Core.Path.{_≡_, sym, ap, _∙_}
 use mathlib.Core.Logic.{⊎-elim}
-use mathlib.Core.Bool.{true, false}
 use mathlib.Core.List.{List}
 use Prim.Native.Nat.{ℕ, _+_, _≤_, _<_}
 use native.Mathlib.Nat.{le-antisymm}
 use native.Mathlib.Omega.{arith}
 use lib.ListN.{set}
+use Rattle.rules.specs.declared.Group.{Group}
 use Rattle.rules.specs.Query.{Graph}
-use Rattle.rules.specs.Shares.{met}
 use Rattle.rules.specs.laws.Bools.{true-or-false, not-both}
-use Rattle.rules.specs.laws.Choice as order
+use Rattle.rules.specs.Offers as rules
 use Rattle.rules.specs.laws.Choice.{Best, best-unique}
 use Rattle.results.specs.declared.price.Choice.{Choice}
 use Rattle.crew.specs.declared.Worker.{Worker}
 use Rattle.crew.specs.declared.Handed as code
-use Rattle.pairs.specs.Places.{At}
-use Rattle.results.specs.Prices.{choiceOf, kept}
+use Rattle.rules.specs.laws.Reference.{kept}
+use Rattle.results.specs.Prices.{choiceOf}
 use Rattle.turns.specs.Standing.{Columns, choiceIn, stored, pairAt, handedPair, Handing, StepTaken, TurnTaken}
 use Rattle.crew.specs.Workers.{workerAt}
 use Rattle.pairs.specs.UniqueLaws.{row-one, next-unique}
 use Rattle.crew.specs.Whose.{LowestLeft}
 
 -- ---- turns
-module _ {g : Graph} {fixed outer inner result : List ℕ} {s : ℕ} {old new new′ : Columns} {pair pair′ : code.Handed} where
+module _ {g : Graph} {fixed outer inner result : List ℕ} {group : Group} {old new new′ : Columns} {pair pair′ : code.Handed} where
   -- a pair is handed in one way
-  handing-unique : {v v′ v″ : Worker} → Handing g fixed outer inner result s v v′ old new pair → Handing g fixed outer inner result s v v″ old new′ pair′ → (v′ ≡ v″) × (new ≡ new′) × (pair ≡ pair′)
+  handing-unique : {v v′ v″ : Worker} → Handing g fixed outer inner result group v v′ old new pair → Handing g fixed outer inner result group v v″ old new′ pair′ → (v′ ≡ v″) × (new ≡ new′) × (pair ≡ pair′)
   handing-unique {v} h h′ =
-      let r = row-one g s s (h .row-from) (h .row-to) (h′ .row-from) (h′ .row-to) (h .row-set ∙ sym (h′ .row-set)) in
+      let r = row-one g _ _ (h .row-from) (h .row-to) (h′ .row-from) (h′ .row-to) (h .row-set ∙ sym (h′ .row-set)) in
       let o = best-unique (h .best) (h′ .best) in
       let p = next-unique (h .next) (h′ .next) in (
         h .worker ∙ (λ t. record { share = v .share; place = p t; last = r t; handed = v .handed + 1 }) ∙ sym (h′ .worker),
@@ -36,14 +35,14 @@ module _ {g : Graph} {fixed outer inner result : List ℕ} {s : ℕ} {old new ne
       )
 
   -- a step has one outcome
-  pub step-unique : {v v′ v″ : Worker} → StepTaken g fixed outer inner result s v v′ old new pair → StepTaken g fixed outer inner result s v v″ old new′ pair′ → (v′ ≡ v″) × (new ≡ new′) × (pair ≡ pair′)
+  pub step-unique : {v v′ v″ : Worker} → StepTaken g fixed outer inner result group v v′ old new pair → StepTaken g fixed outer inner result group v v″ old new′ pair′ → (v′ ≡ v″) × (new ≡ new′) × (pair ≡ pair′)
   step-unique {v} z z′ =
       ⊎-elim (λ e. handing-unique (z .some e) (z′ .some e))
       (λ e. let a = z .none e in let b = z′ .none e in (a .0 ∙ sym (b .0), a .1 ∙ sym (b .1), a .2 ∙ sym (b .2)))
       (true-or-false (v .place .left))
 
   -- a turn too
-  pub turn-unique : {w : ℕ} {workers workers′ workers″ : List Worker} → TurnTaken g fixed outer inner result s w workers workers′ old new pair → TurnTaken g fixed outer inner result s w workers workers″ old new′ pair′
+  pub turn-unique : {w : ℕ} {workers workers′ workers″ : List Worker} → TurnTaken g fixed outer inner result group w workers workers′ old new pair → TurnTaken g fixed outer inner result group w workers workers″ old new′ pair′
       → (workers′ ≡ workers″) × (new ≡ new′) × (pair ≡ pair′)
   turn-unique {w} {workers} z z′ = let r = step-unique (z .step) (z′ .step) in (z .others ∙ ap (set workers w) (r .0) ∙ sym (z′ .others), r .1, r .2)
 
@@ -59,6 +58,6 @@ pub lowest-unique : {workers : List Worker} {m r r′ : ℕ} → LowestLeft work
 lowest-unique z z′ = le-antisymm (lowest-le z z′) (lowest-le z′ z)
 
 -- ---- prices
--- one choice is the best, of `BothWays` or any others
-pub price-unique : {P : order.Choice → Type 0} {a b : Choice} → Best P (choiceOf a) → Best P (choiceOf b) → a ≡ b
+-- one choice is the best, whatever is offered
+pub price-unique : {P : rules.Choice → Type 0} {a b : Choice} → Best P (choiceOf a) → Best P (choiceOf b) → a ≡ b
 price-unique x y = let e = best-unique x y in λ t. record { cost = e t .cost; outer = e t .outer; method = e t .method }

@@ -9,9 +9,11 @@ use crew::Worker;
 use crew::table::with_worker;
 use crew::table::worker_at;
 use lookup::seek::seek;
+use pairs::find::inner_at;
 use pairs::find::next_pair;
 use results::keep::keep;
 use results::price::price;
+use rules::Group;
 
 // One worker after its turn, and the pair handed.
 pub struct Stepped {
@@ -54,12 +56,12 @@ pub fn step(
     skips: &[u64],
     starts: &[usize],
     cells: &[usize],
-    s: usize,
+    group: Group,
     worker: Worker,
 ) -> Stepped
-    requires { ⌜ Board (graphOf (now rows) (now left) (now right) (now divisors)) (now fixed) (now outer) (now inner) (now result) (now sets) (now estimates) (now skips) (now starts) (now cells) s (columns (now costs) (now outers) (now methods)) ⌝ }
-    requires { ⌜ Ready (graphOf (now rows) (now left) (now right) (now divisors)) s worker ⌝ }
-    ensures { λ r. ⌜ StepTaken (graphOf (now (rows .entry)) (now (left .entry)) (now (right .entry)) (now (divisors .entry))) (now (fixed .entry)) (now (outer .entry)) (now (inner .entry)) (now (result .entry)) s worker (r .worker) (columns (now (costs .entry)) (now (outers .entry)) (now (methods .entry))) (columns (now (costs .exit)) (now (outers .exit)) (now (methods .exit))) (r .pair) ⌝ }
+    requires { ⌜ Board (graphOf (now rows) (now left) (now right) (now divisors)) (now fixed) (now outer) (now inner) (now result) (now sets) (now estimates) (now skips) (now starts) (now cells) group (columns (now costs) (now outers) (now methods)) ⌝ }
+    requires { ⌜ Ready (graphOf (now rows) (now left) (now right) (now divisors)) group worker ⌝ }
+    ensures { λ r. ⌜ StepTaken (graphOf (now (rows .entry)) (now (left .entry)) (now (right .entry)) (now (divisors .entry))) (now (fixed .entry)) (now (outer .entry)) (now (inner .entry)) (now (result .entry)) group worker (r .worker) (columns (now (costs .entry)) (now (outers .entry)) (now (methods .entry))) (columns (now (costs .exit)) (now (outers .exit)) (now (methods .exit))) (r .pair) ⌝ }
 {
     let share = worker.share;
     let place = worker.place;
@@ -73,12 +75,14 @@ pub fn step(
     let j = place.inner;
     let x = sets[i];
     let y = sets[j];
-    let row = seek(sets, starts[s], starts[s + 1], worker.last, x + y);
+    let z = place.size + inner_at(group, place.size);
+    let row = seek(sets, starts[z], starts[z + 1], worker.last, x + y);
     let choice = price(
         fixed,
         outer,
         inner,
         result,
+        group.both,
         x,
         y,
         estimates[i],
@@ -96,7 +100,7 @@ pub fn step(
         skips,
         starts,
         cells,
-        s,
+        group,
         share,
         place,
     );
@@ -134,13 +138,13 @@ pub fn turn(
     skips: &[u64],
     starts: &[usize],
     cells: &[usize],
-    s: usize,
+    group: Group,
     workers: [Worker; 8],
     w: usize,
 ) -> Turned
-    requires { ⌜ Board (graphOf (now rows) (now left) (now right) (now divisors)) (now fixed) (now outer) (now inner) (now result) (now sets) (now estimates) (now skips) (now starts) (now cells) s (columns (now costs) (now outers) (now methods)) ⌝ }
-    requires { ⌜ (w < 8) × Ready (graphOf (now rows) (now left) (now right) (now divisors)) s (workerAt workers w) ⌝ }
-    ensures { λ r. ⌜ TurnTaken (graphOf (now (rows .entry)) (now (left .entry)) (now (right .entry)) (now (divisors .entry))) (now (fixed .entry)) (now (outer .entry)) (now (inner .entry)) (now (result .entry)) s w workers (r .workers) (columns (now (costs .entry)) (now (outers .entry)) (now (methods .entry))) (columns (now (costs .exit)) (now (outers .exit)) (now (methods .exit))) (r .pair) ⌝ }
+    requires { ⌜ Board (graphOf (now rows) (now left) (now right) (now divisors)) (now fixed) (now outer) (now inner) (now result) (now sets) (now estimates) (now skips) (now starts) (now cells) group (columns (now costs) (now outers) (now methods)) ⌝ }
+    requires { ⌜ (w < 8) × Ready (graphOf (now rows) (now left) (now right) (now divisors)) group (workerAt workers w) ⌝ }
+    ensures { λ r. ⌜ TurnTaken (graphOf (now (rows .entry)) (now (left .entry)) (now (right .entry)) (now (divisors .entry))) (now (fixed .entry)) (now (outer .entry)) (now (inner .entry)) (now (result .entry)) group w workers (r .workers) (columns (now (costs .entry)) (now (outers .entry)) (now (methods .entry))) (columns (now (costs .exit)) (now (outers .exit)) (now (methods .exit))) (r .pair) ⌝ }
 {
     let worker = worker_at(workers, w);
     let stepped = step(
@@ -160,7 +164,7 @@ pub fn turn(
         skips,
         starts,
         cells,
-        s,
+        group,
         worker,
     );
     let moved = stepped.worker;
