@@ -12,10 +12,10 @@ use lib.ListN.{length, getD, replicate, length-replicate}
 use borrow.Author.Tests.{eq-eqb, ne-eqb}
 use mir.Syntax.{w64}
 use mir.Val.{Fits}
-use Rattle.rules.specs.declared.Scheme.{Scheme}
-use Rattle.rules.specs.declared.NewScheme.the-variants.{Good}
+use Rattle.rules.specs.declared.Crew.{Crew}
+use Rattle.rules.specs.declared.NewCrew.the-variants.{Good, Refused as NoCrew}
 use Rattle.rules.specs.declared.Verdict.{Verdict}
-use Rattle.rules.specs.Kinds.{schemeOf}
+use Rattle.rules.specs.Kinds.{newCrew}
 use Rattle.rules.specs.Sets.{size, full}
 use Rattle.rules.specs.Query.{Graph, tableCount}
 use Rattle.rules.specs.Connected.{Connected}
@@ -24,11 +24,12 @@ use Rattle.rules.specs.Rows.{rowsOf, memo}
 use Rattle.rules.specs.Skips.{skips}
 use Rattle.rules.specs.Refusals.{Memory, Input, refuse, firstOf, checksOf, checks, rooms, verdict, memoLengths, logLengths}
 use Rattle.rules.specs.Checked.{GoodGraph, Checked}
-use Rattle.rules.specs.Answers.{each, Spared, refusal, Filled, Logged, Counted, Planned}
+use Rattle.rules.specs.Answers.{each, Spared, refusal, Filled, scheduleOf, Logged, Counted, Planned}
 use Rattle.rules.specs.laws.Lists.{at-in, length-map}
 use Rattle.rules.specs.laws.Rows.{rows-only, rows-all, below-all}
 use Rattle.rules.specs.laws.Sets.{size-zero, full-only}
-use Rattle.rules.specs.laws.Refusals.{checked}
+use Rattle.rules.specs.laws.Kinds.{crew-workers}
+use Rattle.rules.specs.laws.Refusals.{checked, crew-named}
 use Rattle.memo.specs.declared.layout.Laid.{Laid}
 use Rattle.skips.specs.Vectors.{written}
 use Rattle.memo.specs.Layout.{Lent, lentOf, OneLength, Room, laid, counts, refused, LaidOut}
@@ -39,7 +40,7 @@ use Rattle.pairs.specs.Places.{startOf}
 use Rattle.pairs.specs.PlaceLaws.{start-next, start-end, in-size, memo-row, memo-few}
 use Rattle.shares.specs.Shares.{few}
 use Rattle.planner.specs.declared.Answer.{Answer}
-use Rattle.crew.specs.Logs.{logOf}
+use Rattle.crew.specs.Logs.{logOf, LogFits}
 use Rattle.runs.specs.Runs.{SearchReady, SearchDone}
 use Rattle.runs.specs.SearchLaws.{spared-written, spared-on, laid-length}
 use Rattle.planner.specs.Plans.{answerOf, outcomeOf, refusedWith}
@@ -78,6 +79,10 @@ rooms-place i = go (ltb (length (i .lent .sets)) (length (memo (i .query .graph)
 -- a refusal with nothing changed is what planning promises
 pub planned-refused : (i : Input) {a : Answer} {left : Memory} {v : Verdict} → v ≡ verdict i → (v .number ≡ 0 → ⊥) → answerOf a ≡ refusal v → left ≡ i .lent → Planned i (outcomeOf a left)
 planned-refused i e n r l = record { given = λ z. absurd (n (ap (λ (x : Verdict). x .number) e ∙ z)); refused = λ _. record { answer = r ∙ ap refusal e; lent = l } }
+
+-- numbers that have a crew are not refused one
+pub no-crew : (workers scheme : ℕ) → newCrew workers scheme ≡ NoCrew → (c : Crew) × (newCrew workers scheme ≡ Good c) → ⊥
+no-crew workers scheme e k = let z : _≡_ {A = ℕ} 0 1 = cc (e, k .1) in omega arith
 
 -- the checks of an input, as `check` says them
 pub checks-are : (i : Input) → firstOf (checksOf (i .query) (i .workers) (i .scheme) (i .turns) (memoLengths (i .lent)) (logLengths (i .lent))) ≡ firstOf (checks i)
@@ -206,13 +211,21 @@ module _ (i : Input) (e : firstOf (checks i) .number ≡ 0) {new : Lent} {r : La
   unfolding zeros
   zeros-fit = let z : ℕ = 0 in omega (arith, length-replicate (length (memo (i .query .graph))) z)
 
+  -- the crew is one
+  pub crew-known : (c : Crew) × (newCrew (i .workers) (i .scheme) ≡ Good c)
+  crew-known = (_, crew-named (good .crew))
+
+  -- the log has its lengths
+  pub log-fits : LogFits (logOf (i .lent .logWorkers) (i .lent .logDriving) (i .lent .logInner) (i .lent .logCosts))
+  log-fits = record { driving = good .columns .driving; inner = good .columns .inner; costs = good .columns .log-costs }
+
   -- the search may begin
-  pub search-ready : SearchReady (i .query) (i .workers) (i .turns) (new .sets) (new .estimates) (new .skips) (columns (new .costs) (new .outers) (new .methods)) (logOf (i .lent .logWorkers) (i .lent .logDriving) (i .lent .logInner) (i .lent .logCosts))
-  search-ready = record {
+  pub search-ready : {crew : Crew} → newCrew (i .workers) (i .scheme) ≡ Good crew → SearchReady (i .query) crew (i .turns) (new .sets) (new .estimates) (new .skips) (columns (new .costs) (new .outers) (new .methods)) (logOf (i .lent .logWorkers) (i .lent .logDriving) (i .lent .logInner) (i .lent .logCosts))
+  search-ready {crew} named = record {
     sound = good .sound;
-    some-worker = good .crew .some-worker;
-    few-workers = good .crew .few-workers;
-    turns-known = good .turns;
+    some-worker = omega (arith, workers, good .crew .some-worker);
+    few-workers = omega (arith, workers, good .crew .few-workers);
+    turns-known = λ j l. omega (arith, workers, good .turns j l);
     sets-laid = front (memo g) (i .lent .sets) (room .rows) refl (ap (λ (x : Lent). x .sets) is-laid);
     cells-laid = front (skips g) (i .lent .skips) (room .cells) refl (ap (λ (x : Lent). x .skips) is-laid);
     estimated = estimated-of g (i .lent .estimates) (omega (arith, room .rows, good .columns .estimates)) (ap (λ (x : Lent). x .estimates) is-laid);
@@ -225,8 +238,11 @@ module _ (i : Input) (e : firstOf (checks i) .number ≡ 0) {new : Lent} {r : La
     costs-laid = ap (λ (x : Lent). x .costs) is-laid;
     outers-laid = ap (λ (x : Lent). x .outers) is-laid;
     methods-laid = ap (λ (x : Lent). x .methods) is-laid;
-    log-fits = record { driving = good .columns .driving; inner = good .columns .inner; costs = good .columns .log-costs };
+    log-fits = log-fits;
   }
+    where
+      workers : crew .workers ≡ i .workers
+      workers = crew-workers (i .workers) (i .scheme) named
 
   -- how many rows there are: one at least, and few
   pub rows-are : r .rows ≡ length (memo g)
@@ -241,13 +257,9 @@ module _ (i : Input) (e : firstOf (checks i) .number ≡ 0) {new : Lent} {r : La
   pub rows-fit : r .rows ≤ length (new .costs)
   rows-fit = omega (arith, rows-are, room .rows, good .columns .costs, laid-lengths z .costs)
 
-  -- the scheme is one of the four
-  pub scheme-known : (s : Scheme) × (schemeOf (i .scheme) ≡ Good s)
-  scheme-known = (good .crew .named, good .crew .is-named)
-
   -- its end is a plan
-  module _ {scheme : Scheme} (named : schemeOf (i .scheme) ≡ Good scheme) (a : Answer) (left : Memory)
-      (d : SearchDone (i .query) scheme (i .workers) (i .turns) (columns (new .costs) (new .outers) (new .methods)) (columns (left .costs) (left .outers) (left .methods))
+  module _ {crew : Crew} (named : newCrew (i .workers) (i .scheme) ≡ Good crew) (a : Answer) (left : Memory)
+      (d : SearchDone (i .query) crew (scheduleOf i) (i .turns) (columns (new .costs) (new .outers) (new .methods)) (columns (left .costs) (left .outers) (left .methods))
       (logOf (i .lent .logWorkers) (i .lent .logDriving) (i .lent .logInner) (i .lent .logCosts)) (logOf (left .logWorkers) (left .logDriving) (left .logInner) (left .logCosts)) (a .pairs) (a .counts))
       (same-sets : left .sets ≡ new .sets) (same-estimates : left .estimates ≡ new .estimates) (same-cells : left .skips ≡ new .skips)
       (no-refusal : a .refusal ≡ 0) (no-place : a .place ≡ 0) (best : a .best ≡ getD (left .costs) (r .rows - 1) 0) (rows : a .rows ≡ r .rows) (cells : a .cells ≡ r .cells) where
@@ -285,7 +297,7 @@ module _ (i : Input) (e : firstOf (checks i) .number ≡ 0) {new : Lent} {r : La
 
     pub planned-given : Planned i (outcomeOf a left)
     planned-given = record {
-      given = λ _. record { handed = d .handed; turns = record { scheme = scheme; named = named; sizes = d .sizes }; memory = filled; log = logged; answer = counted };
+      given = λ _. record { handed = d .handed; turns = record { crew = crew; named = named; groups = d .turns-run }; memory = filled; log = logged; answer = counted };
       refused = λ l. absurd (omega (arith, ap (λ (x : Verdict). x .number) (verdict-rooms i e), laid-verdict i z));
     }
 

@@ -1,15 +1,16 @@
 // The library's entry: checks, laying out, the turns in a row, the answer.
 ghost use mathlib.Core.Path.{_≡_};
-ghost use Rattle.rules.specs.Kinds.{schemeOf};
-ghost use Rattle.rules.specs.declared.Scheme.{Scheme};
-ghost use Rattle.rules.specs.declared.NewScheme.the-variants.{Good};
+ghost use Rattle.rules.specs.Kinds.{newCrew};
+ghost use Rattle.rules.specs.declared.Crew.{Crew};
+ghost use Rattle.rules.specs.declared.NewCrew.the-variants.{Good};
 ghost use Rattle.rules.specs.Answers.{Planned};
 ghost use Rattle.query.specs.Lists.{queryOf};
 ghost use Rattle.planner.specs.Plans.{memoryOf, inputOf, outcomeOf, refusedWith};
 use memo::layout::lay_out;
 use refusals::check;
 use rows::tally::tally;
-use rules::NewScheme;
+use rules::Crew;
+use rules::NewCrew;
 use rules::Scheme;
 use runs::search::search;
 
@@ -39,14 +40,17 @@ fn refused(number: u64, place: u64) -> Answer
     }
 }
 
-// The scheme of a number that has one.
-fn known(number: u64) -> Scheme
-    requires { ⌜ ((s : Scheme) × (schemeOf number ≡ Good s)) ⌝ }
-    ensures { λ r. ⌜ schemeOf number ≡ Good r ⌝ }
+// The crew of numbers that have one.
+fn known(workers: u64, scheme: u64) -> Crew
+    requires { ⌜ ((c : Crew) × (newCrew workers scheme ≡ Good c)) ⌝ }
+    ensures { λ r. ⌜ newCrew workers scheme ≡ Good r ⌝ }
 {
-    match Scheme::from_number(number) {
-        NewScheme::Good(scheme) => scheme,
-        NewScheme::Unknown => Scheme::CutCandidates,
+    match Crew::new(workers, scheme) {
+        NewCrew::Good(crew) => crew,
+        NewCrew::Refused => Crew {
+            workers: 1,
+            scheme: Scheme::CutCandidates,
+        },
     }
 }
 
@@ -130,8 +134,7 @@ pub fn plan(
         per_outer,
         per_inner,
         per_result,
-        known(scheme),
-        workers as usize,
+        known(workers, scheme),
         turns,
         &counts,
         sets,

@@ -8,9 +8,10 @@ use lib.ListN.{length, getD, set, drop, length-append, length-take, length-set, 
 use lib.Seq.{take-all, take-nil, drop-cons, drop-drop, append-snoc, take-append-le, set-out, getD-set-same, getD-set-other, drop-set-lt, set-at, getD-at}
 use Rattle.rules.specs.Lists.{over}
 use Rattle.rules.specs.Query.{Query}
+use Rattle.rules.specs.Offers.{union}
 use Rattle.rules.specs.Shares.{Numbered}
 use Rattle.rules.specs.Turns.{Hand}
-use Rattle.rules.specs.Log.{pairOf, union, Stands}
+use Rattle.rules.specs.Log.{pairOf, Stands}
 use Rattle.rules.specs.Refusals.{Memory}
 use Rattle.rules.specs.Answers.{Spared, shown, upTo, Logged}
 use Rattle.rules.specs.laws.Lists.{length-map, over-length}

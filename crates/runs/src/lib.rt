@@ -1,2 +1,2 @@
-// The turns in a row, size after size.
+// The turns in a row, group after group.
 pub mod search;

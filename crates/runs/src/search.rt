@@ -1,5 +1,7 @@
-// The turns in a row, size after size.
+// The turns in a row, group after group.
+ghost use Rattle.rules.specs.declared.Shape.the-variants.{Bushy};
 ghost use Rattle.rules.specs.Query.{graphOf};
+ghost use Rattle.rules.specs.Schedule.{bySize};
 ghost use Rattle.query.specs.Lists.{queryOf};
 ghost use Rattle.rows.specs.Tally.{Tally};
 ghost use Rattle.turns.specs.Standing.{columns};
@@ -12,7 +14,8 @@ use crew::whose::entries_on;
 use crew::whose::lowest;
 use crew::whose::whose_turn;
 use opening::open;
-use rules::Scheme;
+use rules::Crew;
+use rules::Group;
 use starts::lay_starts;
 use turns::scans::lay_scans;
 use turns::turn::step;
@@ -26,7 +29,7 @@ pub struct Searched {
 // Room for where the rows of each size begin: sizes 0 to N + 1, of at most 16 tables.
 const SIZES: usize = 18;
 
-// Fills the memo, whose rows `counts` tells, by turns, from the smallest result size to the largest, and notes them in the log.
+// Fills the memo, whose rows `counts` tells, by turns, group after group, and notes them in the log.
 pub fn search(
     rows: &[u64],
     scans: &[u64],
@@ -37,8 +40,7 @@ pub fn search(
     outer: &[u64],
     inner: &[u64],
     result: &[u64],
-    scheme: Scheme,
-    count: usize,
+    crew: Crew,
     turns: &[u64],
     counts: &[usize],
     sets: &[u64],
@@ -52,10 +54,11 @@ pub fn search(
     log_inner: &mut [u64],
     log_costs: &mut [u64],
 ) -> Searched
-    requires { ⌜ SearchReady (queryOf (now rows) (now scans) (now left) (now right) (now divisors) (now fixed) (now outer) (now inner) (now result)) count (now turns) (now sets) (now estimates) (now skips) (columns (now costs) (now outers) (now methods)) (logOf (now «log_workers») (now «log_driving») (now «log_inner») (now «log_costs»)) ⌝ }
+    requires { ⌜ SearchReady (queryOf (now rows) (now scans) (now left) (now right) (now divisors) (now fixed) (now outer) (now inner) (now result)) crew (now turns) (now sets) (now estimates) (now skips) (columns (now costs) (now outers) (now methods)) (logOf (now «log_workers») (now «log_driving») (now «log_inner») (now «log_costs»)) ⌝ }
     requires { ⌜ Tally (graphOf (now rows) (now left) (now right) (now divisors)) (now counts) ⌝ }
-    ensures { λ r. ⌜ SearchDone (queryOf (now (rows .entry)) (now (scans .entry)) (now (left .entry)) (now (right .entry)) (now (divisors .entry)) (now (fixed .entry)) (now (outer .entry)) (now (inner .entry)) (now (result .entry))) scheme count (now (turns .entry)) (columns (now (costs .entry)) (now (outers .entry)) (now (methods .entry))) (columns (now (costs .exit)) (now (outers .exit)) (now (methods .exit))) (logOf (now («log_workers» .entry)) (now («log_driving» .entry)) (now («log_inner» .entry)) (now («log_costs» .entry))) (logOf (now («log_workers» .exit)) (now («log_driving» .exit)) (now («log_inner» .exit)) (now («log_costs» .exit))) (r .pairs) (r .counts) ⌝ }
+    ensures { λ r. ⌜ SearchDone (queryOf (now (rows .entry)) (now (scans .entry)) (now (left .entry)) (now (right .entry)) (now (divisors .entry)) (now (fixed .entry)) (now (outer .entry)) (now (inner .entry)) (now (result .entry))) crew (bySize Bushy) (now (turns .entry)) (columns (now (costs .entry)) (now (outers .entry)) (now (methods .entry))) (columns (now (costs .exit)) (now (outers .exit)) (now (methods .exit))) (logOf (now («log_workers» .entry)) (now («log_driving» .entry)) (now («log_inner» .entry)) (now («log_costs» .entry))) (logOf (now («log_workers» .exit)) (now («log_driving» .exit)) (now («log_inner» .exit)) (now («log_costs» .exit))) (r .pairs) (r .counts) ⌝ }
 {
+    let count = crew.workers as usize;
     let mut firsts = [0usize; SIZES];
     let mut cells = [0usize; SIZES];
     lay_starts(rows, left, right, divisors, counts, &mut firsts, &mut cells);
@@ -64,7 +67,7 @@ pub fn search(
     let mut at = 0usize;
     let mut pairs = 0usize;
     for k in 1..rows.len() {
-        let s = k + 1;
+        let group = Group::by_size(k);
         let opened = open(
             rows,
             left,
@@ -74,9 +77,8 @@ pub fn search(
             skips,
             &firsts,
             &cells,
-            s,
-            scheme,
-            count,
+            group,
+            crew,
             workers,
         );
         workers = opened;
@@ -108,7 +110,7 @@ pub fn search(
                 skips,
                 &firsts,
                 &cells,
-                s,
+                group,
                 worker,
             );
             let moved = stepped.worker;

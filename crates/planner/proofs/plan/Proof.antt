@@ -5,7 +5,7 @@ use Rattle.query.specs.Lists.{queryOf}
 use Rattle.memo.specs.Layout.{lent, lentOf, LaidOut}
 use Rattle.rules.specs.declared.Verdict.{Verdict}
 use Rattle.planner.specs.Plans.{memoryOf, inputOf}
-use Rattle.planner.specs.PlanLaws.{checks-are, refused-answer, lay-ready, laid-lengths, planned-checks, planned-rooms, search-ready, rows-some, rows-few, rows-fit, last-cell, last-in, scheme-known, planned-given}
+use Rattle.planner.specs.PlanLaws.{checks-are, refused-answer, lay-ready, laid-lengths, planned-checks, planned-rooms, search-ready, rows-some, rows-few, rows-fit, last-cell, last-in, crew-known, log-fits, planned-given}
 use Rattle.runs.specs.SearchLaws.{logged-lengths}
 use Rattle.planner.proofs.plan.Statement.{statement}
 use Rattle.planner.proofs.plan.Tie as tie
@@ -19,6 +19,18 @@ input s =
 -- past the checks: none refuses
 passed : (c : tie.Else1) → firstOf (checks (input (c .before .before .before .before .before .before .before .before .before .before .before .before .before .before .before .before .before .before .before .before .before .before .before))) .number ≡ 0
 passed c = sym (ap (λ (x : Verdict). x .number) (c .before .before .check .ensures ∙ checks-are (input (c .before .before .before .before .before .before .before .before .before .before .before .before .before .before .before .before .before .before .before .before .before .before .before)))) ∙ c .if1 .left
+
+-- what laying out left, in the shortest paths: the needs behind it are compared with these
+laid : (c : tie.After-lay-out) → let i = input (c .before .before .before .before .before .before .before .before .before .before .before .before .before .before .before .before .before .before .before .before .before .before .before .before .before .before .before .before .before .before .before .before) in LaidOut (i .query .graph) (lentOf (i .lent)) (lent (c .lay-out .last .1 .1 .1 .1 .1 .0) (c .lay-out .last .1 .1 .1 .1 .1 .1 .0) (c .lay-out .last .1 .1 .1 .1 .1 .1 .1 .0) (c .lay-out .last .1 .1 .1 .1 .1 .1 .1 .1 .0) (c .lay-out .last .1 .1 .1 .1 .1 .1 .1 .1 .1 .0) (c .lay-out .last .1 .1 .1 .1 .1 .1 .1 .1 .1 .1 .0)) (c .lay-out .result)
+laid c = c .lay-out .ensures
+
+-- the log keeps its lengths: once, for the four needs that ask it
+same-log : (c : tie.After-search) → let l = input (c .before .before .before .before .before .before .before .before .before .before .before .before .before .before .before .before .before .before .before .before .before .before .before .before .before .before .before .before .before .before .before .before .before .before .before .before .before .before .before .before .before .before .before .before .before .before .before .before .before .before .before .before .before .before .before .before .before .before .before) .lent in (length (c .search .last .1 .1 .1 .1 .1 .1 .1 .1 .1 .1 .1 .1 .1 .1 .1 .1 .1 .1 .0) ≡ length (l .logWorkers)) × (length (c .search .last .1 .1 .1 .1 .1 .1 .1 .1 .1 .1 .1 .1 .1 .1 .1 .1 .1 .1 .1 .0) ≡ length (l .logDriving)) × (length (c .search .last .1 .1 .1 .1 .1 .1 .1 .1 .1 .1 .1 .1 .1 .1 .1 .1 .1 .1 .1 .1 .0) ≡ length (l .logInner)) × (length (c .search .last .1 .1 .1 .1 .1 .1 .1 .1 .1 .1 .1 .1 .1 .1 .1 .1 .1 .1 .1 .1 .1 .0) ≡ length (l .logCosts))
+same-log c =
+    let i = input (c .before .before .before .before .before .before .before .before .before .before .before .before .before .before .before .before .before .before .before .before .before .before .before .before .before .before .before .before .before .before .before .before .before .before .before .before .before .before .before .before .before .before .before .before .before .before .before .before .before .before .before .before .before .before .before .before .before .before .before) in
+    let e = passed (c .before .before .before .before .before .before .before .before .before .before .before .before .before .before .before .before .before .before .before .before .before .before .before .before .before .before .before .before .before .before .before .before .before .before .before .before) in
+    let z = laid (c .before .before .before .before .before .before .before .before .before .before .before .before .before .before .before .before .before .before .before .before .before .before .before .before .before .before .before) in
+    logged-lengths (c .search .ensures .logged) (log-fits i e z (c .before .before .before .before .before .before .before .before .before .before .before .before .before .if2 .left))
 
 check-requires : tie.Need-check-requires
 check-requires c κs = tt
@@ -44,10 +56,6 @@ lay-out-requires c κs =
     let e = passed (c .before .before .before .before .before .before .before .before) in
     let r = lay-ready i e in
     (r .0, (r .1, c .before .before .before .before .before .before .before .tally .ensures .0))
-
--- what laying out left, in the shortest paths: the needs behind it are compared with these
-laid : (c : tie.After-lay-out) → let i = input (c .before .before .before .before .before .before .before .before .before .before .before .before .before .before .before .before .before .before .before .before .before .before .before .before .before .before .before .before .before .before .before .before) in LaidOut (i .query .graph) (lentOf (i .lent)) (lent (c .lay-out .last .1 .1 .1 .1 .1 .0) (c .lay-out .last .1 .1 .1 .1 .1 .1 .0) (c .lay-out .last .1 .1 .1 .1 .1 .1 .1 .0) (c .lay-out .last .1 .1 .1 .1 .1 .1 .1 .1 .0) (c .lay-out .last .1 .1 .1 .1 .1 .1 .1 .1 .1 .0) (c .lay-out .last .1 .1 .1 .1 .1 .1 .1 .1 .1 .1 .0)) (c .lay-out .result)
-laid c = c .lay-out .ensures
 
 refused-requires-2 : tie.Need-refused-requires-2
 refused-requires-2 c κs = tt
@@ -83,7 +91,7 @@ known-requires c κs =
     let i = input (c .before .before .before .before .before .before .before .before .before .before .before .before .before .before .before .before .before .before .before .before .before .before .before .before .before .before .before .before .before .before .before .before .before .before .before .before .before .before .before .before .before .before .before .before .before .before) in
     let e = passed (c .before .before .before .before .before .before .before .before .before .before .before .before .before .before .before .before .before .before .before .before .before .before .before) in
     let z = laid (c .before .before .before .before .before .before .before .before .before .before .before .before .before .before) in
-    scheme-known i e z (c .if2 .left)
+    crew-known i e z (c .if2 .left)
 
 slice-aggregate-search : tie.Need-slice-aggregate-search
 slice-aggregate-search c = sym (c .before .before .before .before .before .before .before .before .before .before .before .before .before .before .before .before .before .before .before .before .before .before .before .before .tally .ensures .1)
@@ -93,10 +101,10 @@ search-requires c κs =
     let i = input (c .before .before .before .before .before .before .before .before .before .before .before .before .before .before .before .before .before .before .before .before .before .before .before .before .before .before .before .before .before .before .before .before .before .before .before .before .before .before .before .before .before .before .before .before .before .before .before .before .before .before .before .before .before .before .before .before .before .before) in
     let e = passed (c .before .before .before .before .before .before .before .before .before .before .before .before .before .before .before .before .before .before .before .before .before .before .before .before .before .before .before .before .before .before .before .before .before .before .before) in
     let z = laid (c .before .before .before .before .before .before .before .before .before .before .before .before .before .before .before .before .before .before .before .before .before .before .before .before .before .before) in
-    (search-ready i e z (c .before .before .before .before .before .before .before .before .before .before .before .before .if2 .left), c .before .before .before .before .before .before .before .before .before .before .before .before .before .before .before .before .before .before .before .before .before .before .before .before .before .before .before .before .before .before .before .before .before .before .tally .ensures .0)
+    (search-ready i e z (c .before .before .before .before .before .before .before .before .before .before .before .before .if2 .left) (c .before .before .before .before .before .before .before .before .before .before .before .known .ensures), c .before .before .before .before .before .before .before .before .before .before .before .before .before .before .before .before .before .before .before .before .before .before .before .before .before .before .before .before .before .before .before .before .before .before .tally .ensures .0)
 
-sub-t28 : tie.Need-sub-t28
-sub-t28 c =
+sub-t29 : tie.Need-sub-t29
+sub-t29 c =
     let i = input (c .before .before .before .before .before .before .before .before .before .before .before .before .before .before .before .before .before .before .before .before .before .before .before .before .before .before .before .before .before .before .before .before .before .before .before .before .before .before .before .before .before .before .before .before .before .before .before .before .before .before .before .before .before .before .before .before .before .before .before .before .before .before .before .before .before .before .before .before .before .before .before .before .before .before) in
     let e = passed (c .before .before .before .before .before .before .before .before .before .before .before .before .before .before .before .before .before .before .before .before .before .before .before .before .before .before .before .before .before .before .before .before .before .before .before .before .before .before .before .before .before .before .before .before .before .before .before .before .before .before .before) in
     let z = laid (c .before .before .before .before .before .before .before .before .before .before .before .before .before .before .before .before .before .before .before .before .before .before .before .before .before .before .before .before .before .before .before .before .before .before .before .before .before .before .before .before .before .before) in
@@ -134,14 +142,6 @@ same-length-11 c = c .before .before .before .before .before .before .before .be
 
 same-length-12 : tie.Need-same-length-12
 same-length-12 c = laid-lengths (laid (c .before .before .before .before .before .before .before .before .before .before .before .before .before .before .before .before .before .before .before .before .before .before .before .before .before .before .before .before .before .before .before .before .before .before .before .before .before .before .before .before .before .before .before)) .skips
-
--- the log keeps its lengths: once, for the four needs that ask it
-same-log : (c : tie.After-search) → let l = input (c .before .before .before .before .before .before .before .before .before .before .before .before .before .before .before .before .before .before .before .before .before .before .before .before .before .before .before .before .before .before .before .before .before .before .before .before .before .before .before .before .before .before .before .before .before .before .before .before .before .before .before .before .before .before .before .before .before .before .before) .lent in (length (c .search .last .1 .1 .1 .1 .1 .1 .1 .1 .1 .1 .1 .1 .1 .1 .1 .1 .1 .1 .1 .0) ≡ length (l .logWorkers)) × (length (c .search .last .1 .1 .1 .1 .1 .1 .1 .1 .1 .1 .1 .1 .1 .1 .1 .1 .1 .1 .1 .1 .0) ≡ length (l .logDriving)) × (length (c .search .last .1 .1 .1 .1 .1 .1 .1 .1 .1 .1 .1 .1 .1 .1 .1 .1 .1 .1 .1 .1 .1 .0) ≡ length (l .logInner)) × (length (c .search .last .1 .1 .1 .1 .1 .1 .1 .1 .1 .1 .1 .1 .1 .1 .1 .1 .1 .1 .1 .1 .1 .1 .0) ≡ length (l .logCosts))
-same-log c =
-    let i = input (c .before .before .before .before .before .before .before .before .before .before .before .before .before .before .before .before .before .before .before .before .before .before .before .before .before .before .before .before .before .before .before .before .before .before .before .before .before .before .before .before .before .before .before .before .before .before .before .before .before .before .before .before .before .before .before .before .before .before .before) in
-    let e = passed (c .before .before .before .before .before .before .before .before .before .before .before .before .before .before .before .before .before .before .before .before .before .before .before .before .before .before .before .before .before .before .before .before .before .before .before .before) in
-    let z = laid (c .before .before .before .before .before .before .before .before .before .before .before .before .before .before .before .before .before .before .before .before .before .before .before .before .before .before .before) in
-    logged-lengths (c .search .ensures .logged) (search-ready i e z (c .before .before .before .before .before .before .before .before .before .before .before .before .before .if2 .left) .log-fits)
 
 same-length-13 : tie.Need-same-length-13
 same-length-13 c = same-log (c .before .before .before .before .before .before .before .before .before .before .before .before .before .before .before .before) .0
@@ -183,7 +183,7 @@ plan-spec =
     known-requires
     slice-aggregate-search
     search-requires
-    sub-t28
+    sub-t29
     mul-t30
     slice-read-t77
     same-length-7

@@ -9,7 +9,9 @@ use borrow.Author.Needs.{scaled-fits}
 use lib.Dec.{lit<}
 use lib.ListN.{length, replicate, set}
 use Rattle.rules.specs.Limits.{maxWorkers}
+use Rattle.rules.specs.declared.Shape.the-variants.{Bushy}
 use Rattle.rules.specs.Query.{graphOf}
+use Rattle.rules.specs.Schedule.{bySize}
 use Rattle.query.specs.Lists.{queryOf}
 use Rattle.starts.specs.Starts.{starts, cellStarts}
 use Rattle.turns.specs.Standing.{columns}
@@ -19,27 +21,27 @@ use Rattle.crew.specs.Workers.{workerAt}
 use Rattle.crew.specs.Logs.{logOf}
 use Rattle.runs.specs.Runs.{Between, Within, Underway, Carried}
 use Rattle.runs.specs.HandLaws.{InHand, hand-start, hand-changed, hand-kept, Turned, hand-turned, hand-ready, down-less, down-underway, down-carried}
-use Rattle.runs.specs.SearchLaws.{in-memory, scans-fit, between-start, between-end, prepared, nobodies, within-open, within-closed, within-few, whose-known, carried-start, two-of, size-of, below-eight, below-two, few-pairs, starts-room, size-fits, less-size, all-sizes, laid-length, logged-lengths}
+use Rattle.runs.specs.SearchLaws.{in-memory, work-by-size, scans-fit, between-start, between-end, prepared, nobodies, within-open, within-closed, within-few, whose-known, carried-start, open-fits, group-of, group-few, next-group, below-eight, few-pairs, starts-room, size-fits, less-size, all-groups, laid-length, logged-lengths}
 use Rattle.runs.proofs.search.search.Statement.{statement}
 use Rattle.runs.proofs.search.search.Tie as tie
 
 abbrev Inv-loop2 : tie.InvT-loop2
-Inv-loop2 rows scans left right divisors fixed outer inner result scheme count turns counts sets estimates costs₀ outers₀ methods₀ skips log-workers₀ log-driving₀ log-inner₀ log-costs₀ firsts cells workers₀ at₀ pairs₀ k s low₀ held₀ worker₀ k-end costs outers methods log-workers log-driving log-inner log-costs workers at pairs low held worker =
-    Prepared (queryOf rows scans left right divisors fixed outer inner result) sets estimates skips firsts cells × (2 ≤ s) × (s ≤ length rows) × (length firsts ≡ 18) × (length cells ≡ 18)
-    × Underway (queryOf rows scans left right divisors fixed outer inner result) scheme count turns s low (set workers held worker) at pairs (columns costs outers methods) (logOf log-workers log-driving log-inner log-costs)
-    × Carried (queryOf rows scans left right divisors fixed outer inner result) scheme count turns s low₀ (set workers₀ held₀ worker₀) at₀ pairs₀ (columns costs₀ outers₀ methods₀) (logOf log-workers₀ log-driving₀ log-inner₀ log-costs₀) low (set workers held worker) at pairs (columns costs outers methods) (logOf log-workers log-driving log-inner log-costs)
+Inv-loop2 rows scans left right divisors fixed outer inner result crew turns counts sets estimates costs₀ outers₀ methods₀ skips log-workers₀ log-driving₀ log-inner₀ log-costs₀ count firsts cells workers₀ at₀ pairs₀ k group low₀ held₀ worker₀ k-end costs outers methods log-workers log-driving log-inner log-costs workers at pairs low held worker =
+    Prepared (queryOf rows scans left right divisors fixed outer inner result) sets estimates skips firsts cells × (1 ≤ k) × (k ≤ length rows - 1) × (length firsts ≡ 18) × (length cells ≡ 18)
+    × Underway (queryOf rows scans left right divisors fixed outer inner result) crew (bySize Bushy) turns k low (set workers held worker) at pairs (columns costs outers methods) (logOf log-workers log-driving log-inner log-costs)
+    × Carried (queryOf rows scans left right divisors fixed outer inner result) crew (bySize Bushy) turns k low₀ (set workers₀ held₀ worker₀) at₀ pairs₀ (columns costs₀ outers₀ methods₀) (logOf log-workers₀ log-driving₀ log-inner₀ log-costs₀) low (set workers held worker) at pairs (columns costs outers methods) (logOf log-workers log-driving log-inner log-costs)
     × (held < maxWorkers)
 
 abbrev μ-loop2 : tie.MeasureT-loop2
-μ-loop2 rows scans left right divisors fixed outer inner result scheme count turns counts sets estimates costs₀ outers₀ methods₀ skips log-workers₀ log-driving₀ log-inner₀ log-costs₀ firsts cells workers₀ at₀ pairs₀ k s low₀ held₀ worker₀ k-end costs outers methods log-workers log-driving log-inner log-costs workers at pairs low held worker = length turns - at + stillMet (graphOf rows left right divisors) s count (set workers held worker)
+μ-loop2 rows scans left right divisors fixed outer inner result crew turns counts sets estimates costs₀ outers₀ methods₀ skips log-workers₀ log-driving₀ log-inner₀ log-costs₀ count firsts cells workers₀ at₀ pairs₀ k group low₀ held₀ worker₀ k-end costs outers methods log-workers log-driving log-inner log-costs workers at pairs low held worker = length turns - at + stillMet (graphOf rows left right divisors) (bySize Bushy k) (crew .workers) (set workers held worker)
 
 abbrev Inv-loop : tie.InvT-loop
-Inv-loop rows scans left right divisors fixed outer inner result scheme count turns counts sets estimates costs₀ outers₀ methods₀ skips log-workers₀ log-driving₀ log-inner₀ log-costs₀ firsts cells workers₀ at₀ pairs₀ k₀ k-end costs outers methods log-workers log-driving log-inner log-costs workers at pairs k =
+Inv-loop rows scans left right divisors fixed outer inner result crew turns counts sets estimates costs₀ outers₀ methods₀ skips log-workers₀ log-driving₀ log-inner₀ log-costs₀ count firsts cells workers₀ at₀ pairs₀ k₀ k-end costs outers methods log-workers log-driving log-inner log-costs workers at pairs k =
     (1 ≤ k) × (k ≤ length rows) × (k-end ≡ length rows) × Prepared (queryOf rows scans left right divisors fixed outer inner result) sets estimates skips firsts cells × (length firsts ≡ 18) × (length cells ≡ 18)
-    × Between (queryOf rows scans left right divisors fixed outer inner result) scheme count turns (columns costs₀ outers₀ methods₀) (logOf log-workers₀ log-driving₀ log-inner₀ log-costs₀) (k + 1) workers at pairs (columns costs outers methods) (logOf log-workers log-driving log-inner log-costs)
+    × Between (queryOf rows scans left right divisors fixed outer inner result) crew (bySize Bushy) turns (columns costs₀ outers₀ methods₀) (logOf log-workers₀ log-driving₀ log-inner₀ log-costs₀) k workers at pairs (columns costs outers methods) (logOf log-workers log-driving log-inner log-costs)
 
 abbrev μ-loop : tie.MeasureT-loop
-μ-loop rows scans left right divisors fixed outer inner result scheme count turns counts sets estimates costs₀ outers₀ methods₀ skips log-workers₀ log-driving₀ log-inner₀ log-costs₀ firsts cells workers₀ at₀ pairs₀ k₀ k-end costs outers methods log-workers log-driving log-inner log-costs workers at pairs k = k-end - k
+μ-loop rows scans left right divisors fixed outer inner result crew turns counts sets estimates costs₀ outers₀ methods₀ skips log-workers₀ log-driving₀ log-inner₀ log-costs₀ count firsts cells workers₀ at₀ pairs₀ k₀ k-end costs outers methods log-workers log-driving log-inner log-costs workers at pairs k = k-end - k
 
 -- the tables of starts, before they are laid
 abbrev zeros : List ℕ
@@ -48,6 +50,41 @@ zeros = replicate 18 0
 -- the table has workers
 some-workers : 0 < maxWorkers
 some-workers = omega arith
+
+-- the first turn of a size, stated once in the shortest paths
+opened : (c : tie.After-lowest Inv-loop2 μ-loop2 Inv-loop μ-loop)
+    → let l = c .before .before .before .before .before .before .loop in let a = c .before .before .before .before .before .before .before .before .before .before .before .before .before .before .before .before .before .before .before .before .before .before .before .before .before .before .before .before .before .before .before .before .before .before .before .before .before .before .args in let o = c .before .«open» .result in
+    Within (queryOf (a .rows .now) (a .scans .now) (a .left .now) (a .right .now) (a .divisors .now) (a .fixed .now) (a .outer .now) (a .inner .now) (a .result .now)) (a .crew) (bySize Bushy) (a .turns .now) (columns (c .before .before .before .before .before .before .before .before .before .before .lay-scans .last .1 .0) (a .outers .now) (a .methods .now)) (logOf (a .log-workers .now) (a .log-driving .now) (a .log-inner .now) (a .log-costs .now)) (l .k) (c .lowest .result) (set o 0 (workerAt o 0)) (l .at) (l .pairs) (columns (l .costs) (l .outers) (l .methods)) (logOf (l .log-workers) (l .log-driving) (l .log-inner) (l .log-costs))
+opened c =
+    let z = c .before .before .before .before .before .before .before .before .before .before .before .before .before .before .before .before .before .before .before .before .before .before .before .before .before .before .before .before .before .before .before .before .before .before .before .before .before .before .pre .0 in
+    let l = c .before .before .before .before .before .before .loop in
+    hand-start (c .before .«open» .result) (within-open (work-by-size z) (l .inv .0) (group-of (c .before .before .before .before .before .loop-test .taken) (l .inv .2)) (c .before .before .before .before .by-size .ensures) (l .inv .6) (c .before .«open» .ensures) (c .lowest .ensures))
+
+-- after the change of hands: the worker in hand is the one whose turn it is
+in-hand : (c : tie.Joined1 Inv-loop2 μ-loop2 Inv-loop μ-loop) → InHand (set (c .before .before .before .loop2 .workers) (c .before .before .before .loop2 .held) (c .before .before .before .loop2 .worker)) (c .if1 .workers) (c .if1 .held) (c .before .whose-turn .result) (c .if1 .worker)
+in-hand c =
+    let m = c .before .before .before .loop2 in
+    ⊎-elim (λ w. hand-changed (m .workers) (m .held) (c .before .whose-turn .result) (m .worker) (w .2) (w .3) (w .4))
+    (λ w. hand-kept (m .workers) (m .held) (c .before .whose-turn .result) (m .worker) (in-memory (m .workers) (m .held) (m .worker) (m .inv .7) (m .inv .5 .within .running .tally .table)) (w .0 .left) (w .1) (w .2) (w .3))
+    (c .if1 .came)
+
+-- and it is one of the table's
+held-inside : (c : tie.Joined1 Inv-loop2 μ-loop2 Inv-loop μ-loop) → c .if1 .held < maxWorkers
+held-inside c =
+    let z = c .before .before .before .before .before .before .before .before .before .before .before .before .before .before .before .before .before .before .before .before .before .before .before .before .before .before .before .before .before .before .before .before .before .before .before .before .before .before .before .before .before .before .before .pre .0 in
+    let m = c .before .before .before .loop2 in
+    let u = m .inv .5 in
+    rw (in-hand c .whose) (below-eight (whose-known (work-by-size z) (m .inv .1) (m .inv .2) (u .lent-fits) (u .within) (c .before .before .loop2-test .taken) (c .before .whose-turn .ensures)) (z .few-workers))
+
+-- the turn, in the shortest paths: the needs below have it at every length
+turned : (c : tie.After-entries-on Inv-loop2 μ-loop2 Inv-loop μ-loop)
+    → let j = c .before .before .before .before .before .before .before .before .before .before .before .before .before .before .before .before .before .before .before .before .before .before .before .before .before .before .before .before in let m = j .before .before .before .loop2 in let l = j .before .before .before .before .before .before .before .before .before .before .before .loop in let a = j .before .before .before .before .before .before .before .before .before .before .before .before .before .before .before .before .before .before .before .before .before .before .before .before .before .before .before .before .before .before .before .before .before .before .before .before .before .before .before .before .before .before .before .args in let o = j .before .before .before .before .before .before .«open» .result in
+    Turned (queryOf (a .rows .now) (a .scans .now) (a .left .now) (a .right .now) (a .divisors .now) (a .fixed .now) (a .outer .now) (a .inner .now) (a .result .now)) (a .crew) (bySize Bushy) (a .turns .now) (l .k) (j .before .before .before .before .before .lowest .result) (set o 0 (workerAt o 0)) (l .at) (l .pairs) (columns (l .costs) (l .outers) (l .methods)) (logOf (l .log-workers) (l .log-driving) (l .log-inner) (l .log-costs)) (m .low) (m .at) (set (m .workers) (m .held) (m .worker)) (j .if1 .workers) (j .if1 .held) (c .before .before .before .before .before .before .before .before .before .before .before .before .before .before .before .before .before .before .before .before .before .before .step .result .worker) (c .entries-on .result) (c .before .before .before .before .before .before .before .before .before .note .result) (columns (c .before .before .before .before .before .before .before .before .before .before .before .before .before .before .before .before .before .before .before .before .before .before .step .last .1 .1 .1 .1 .1 .1 .1 .1 .1 .1 .0) (c .before .before .before .before .before .before .before .before .before .before .before .before .before .before .before .before .before .before .before .before .before .before .step .last .1 .1 .1 .1 .1 .1 .1 .1 .1 .1 .1 .0) (c .before .before .before .before .before .before .before .before .before .before .before .before .before .before .before .before .before .before .before .before .before .before .step .last .1 .1 .1 .1 .1 .1 .1 .1 .1 .1 .1 .1 .0)) (logOf (c .before .before .before .before .before .before .before .before .before .note .last .0) (c .before .before .before .before .before .before .before .before .before .note .last .1 .0) (c .before .before .before .before .before .before .before .before .before .note .last .1 .1 .0) (c .before .before .before .before .before .before .before .before .before .note .last .1 .1 .1 .0))
+turned c =
+    let j = c .before .before .before .before .before .before .before .before .before .before .before .before .before .before .before .before .before .before .before .before .before .before .before .before .before .before .before .before in
+    let z = j .before .before .before .before .before .before .before .before .before .before .before .before .before .before .before .before .before .before .before .before .before .before .before .before .before .before .before .before .before .before .before .before .before .before .before .before .before .before .before .before .before .before .before .pre .0 in
+    let m = j .before .before .before .loop2 in
+    hand-turned (work-by-size z) (m .inv .1) (m .inv .2) (m .inv .5) (m .inv .6) (j .before .before .loop2-test .taken) (j .before .whose-turn .ensures) (in-hand j) (j .before .before .before .before .before .before .before .before .before .by-size .ensures) (c .before .before .before .before .before .before .before .before .before .before .before .before .before .before .before .before .before .before .before .before .before .before .step .ensures) (c .entries-on .ensures) (c .before .before .before .before .before .before .before .before .before .note .ensures)
 
 slice-aggregate-lay-starts : tie.Need-slice-aggregate-lay-starts Inv-loop2 μ-loop2 Inv-loop μ-loop
 slice-aggregate-lay-starts c = refl
@@ -80,48 +117,39 @@ loop-holds c =
       prepared z zeros zeros (starts-room (z .sound .graph .few-tables)) (starts-room (z .sound .graph .few-tables)) (l .0) (l .1),
       laid-length zeros (starts g) (l .0),
       laid-length zeros (cellStarts g) (l .1),
-      between-start z (c .before .before .before .lay-scans .ensures) (s .args .scheme) _ (n .0) (n .1),
+      between-start z (c .before .before .before .lay-scans .ensures) (bySize Bushy) _ (n .0) (n .1),
     )
 
-add-s : tie.Need-add-s Inv-loop2 μ-loop2 Inv-loop μ-loop
-add-s c = size-fits (c .before .loop .inv .1) (c .before .before .before .before .before .before .before .before .before .before .before .before .before .before .before .before .before .before .before .before .before .before .before .before .before .before .before .before .before .before .before .before .before .pre .0 .sound .graph .few-tables)
+by-size-requires : tie.Need-by-size-requires Inv-loop2 μ-loop2 Inv-loop μ-loop
+by-size-requires c κs = group-few (c .before .loop .inv .1) (c .before .before .before .before .before .before .before .before .before .before .before .before .before .before .before .before .before .before .before .before .before .before .before .before .before .before .before .before .before .before .before .before .before .pre .0 .sound .graph .few-tables)
 
 slice-aggregate-open : tie.Need-slice-aggregate-open Inv-loop2 μ-loop2 Inv-loop μ-loop
-slice-aggregate-open c = sym (c .before .before .loop .inv .4)
+slice-aggregate-open c = sym (c .before .before .before .loop .inv .4)
 
 slice-aggregate-open-2 : tie.Need-slice-aggregate-open-2 Inv-loop2 μ-loop2 Inv-loop μ-loop
-slice-aggregate-open-2 c = sym (c .before .before .before .loop .inv .5)
+slice-aggregate-open-2 c = sym (c .before .before .before .before .loop .inv .5)
 
 open-requires : tie.Need-open-requires Inv-loop2 μ-loop2 Inv-loop μ-loop
 open-requires c κs =
-    let z = c .before .before .before .before .before .before .before .before .before .before .before .before .before .before .before .before .before .before .before .before .before .before .before .before .before .before .before .before .before .before .before .before .before .before .before .pre .0 in
-    let l = c .before .before .before .loop in
-    ((z .sound .graph, l .inv .3 .ground), (two-of (l .inv .0), size-of (c .before .before .loop-test .taken) (l .inv .2), z .some-worker, z .few-workers))
+    let z = c .before .before .before .before .before .before .before .before .before .before .before .before .before .before .before .before .before .before .before .before .before .before .before .before .before .before .before .before .before .before .before .before .before .before .before .before .pre .0 in
+    let l = c .before .before .before .before .loop in
+    ((z .sound .graph, l .inv .3 .ground), (open-fits (work-by-size z) (l .inv .0) (group-of (c .before .before .before .loop-test .taken) (l .inv .2)) (c .before .before .by-size .ensures), z .some-worker, z .few-workers))
 
 lowest-requires : tie.Need-lowest-requires Inv-loop2 μ-loop2 Inv-loop μ-loop
-lowest-requires c κs = c .before .before .before .before .before .before .before .before .before .before .before .before .before .before .before .before .before .before .before .before .before .before .before .before .before .before .before .before .before .before .before .before .before .before .before .before .pre .0 .few-workers
+lowest-requires c κs = c .before .before .before .before .before .before .before .before .before .before .before .before .before .before .before .before .before .before .before .before .before .before .before .before .before .before .before .before .before .before .before .before .before .before .before .before .before .pre .0 .few-workers
 
 array-copy-out-worker : tie.Need-array-copy-out-worker Inv-loop2 μ-loop2 Inv-loop μ-loop
 array-copy-out-worker c = some-workers
 
--- the first turn of a size, stated once in the shortest paths
-opened : (c : tie.After-lowest Inv-loop2 μ-loop2 Inv-loop μ-loop)
-    → let l = c .before .before .before .before .before .loop in let a = c .before .before .before .before .before .before .before .before .before .before .before .before .before .before .before .before .before .before .before .before .before .before .before .before .before .before .before .before .before .before .before .before .before .before .before .before .before .args in let o = c .before .«open» .result in
-    Within (queryOf (a .rows .now) (a .scans .now) (a .left .now) (a .right .now) (a .divisors .now) (a .fixed .now) (a .outer .now) (a .inner .now) (a .result .now)) (a .scheme) (a .count) (a .turns .now) (columns (c .before .before .before .before .before .before .before .before .before .lay-scans .last .1 .0) (a .outers .now) (a .methods .now)) (logOf (a .log-workers .now) (a .log-driving .now) (a .log-inner .now) (a .log-costs .now)) (l .k + 1) (c .lowest .result) (set o 0 (workerAt o 0)) (l .at) (l .pairs) (columns (l .costs) (l .outers) (l .methods)) (logOf (l .log-workers) (l .log-driving) (l .log-inner) (l .log-costs))
-opened c =
-    let z = c .before .before .before .before .before .before .before .before .before .before .before .before .before .before .before .before .before .before .before .before .before .before .before .before .before .before .before .before .before .before .before .before .before .before .before .before .before .pre .0 in
-    let l = c .before .before .before .before .before .loop in
-    hand-start (c .before .«open» .result) (within-open (z .sound) (two-of (l .inv .0)) (size-of (c .before .before .before .before .loop-test .taken) (l .inv .2)) (z .some-worker) (z .few-workers) (l .inv .6) (c .before .«open» .ensures) (c .lowest .ensures))
-
 loop2-holds : tie.Need-loop2-holds Inv-loop2 μ-loop2 Inv-loop μ-loop
 loop2-holds c =
-    let l = c .before .before .before .before .before .before .loop in (
+    let l = c .before .before .before .before .before .before .before .loop in (
       l .inv .3,
-      two-of (l .inv .0),
-      size-of (c .before .before .before .before .before .loop-test .taken) (l .inv .2),
+      l .inv .0,
+      group-of (c .before .before .before .before .before .before .loop-test .taken) (l .inv .2),
       l .inv .4,
       l .inv .5,
-      record { old = _; lent = _; lent-fits = c .before .before .before .before .before .before .before .before .before .before .before .before .before .before .before .before .before .before .before .before .before .before .before .before .before .before .before .before .before .before .before .before .before .before .before .before .before .before .pre .0 .log-fits; within = opened (c .before) },
+      record { old = _; lent = _; lent-fits = c .before .before .before .before .before .before .before .before .before .before .before .before .before .before .before .before .before .before .before .before .before .before .before .before .before .before .before .before .before .before .before .before .before .before .before .before .before .before .before .pre .0 .log-fits; within = opened (c .before) },
       carried-start _ _ _ _ _ _ _ _ _ _ _,
       some-workers,
     )
@@ -137,17 +165,17 @@ array-set-from-workers c = c .before .before .before .loop2 .inv .7
 
 mul-worker : tie.Need-mul-worker Inv-loop2 μ-loop2 Inv-loop μ-loop
 mul-worker c =
-    let z = c .before .before .before .before .before .before .before .before .before .before .before .before .before .before .before .before .before .before .before .before .before .before .before .before .before .before .before .before .before .before .before .before .before .before .before .before .before .before .before .before .before .before .pre .0 in
+    let z = c .before .before .before .before .before .before .before .before .before .before .before .before .before .before .before .before .before .before .before .before .before .before .before .before .before .before .before .before .before .before .before .before .before .before .before .before .before .before .before .before .before .before .before .pre .0 in
     let m = c .before .before .before .loop2 in
     let u = m .inv .5 in
-    scaled-fits _ maxWorkers _ (below-eight (whose-known (z .sound) (m .inv .1) (m .inv .2) (u .lent-fits) (z .turns-known) (u .within) (c .before .before .loop2-test .taken) (c .before .whose-turn .ensures)) (z .few-workers)) (lit< tt)
+    scaled-fits _ maxWorkers _ (below-eight (whose-known (work-by-size z) (m .inv .1) (m .inv .2) (u .lent-fits) (u .within) (c .before .before .loop2-test .taken) (c .before .whose-turn .ensures)) (z .few-workers)) (lit< tt)
 
 array-copy-out-worker-2 : tie.Need-array-copy-out-worker-2 Inv-loop2 μ-loop2 Inv-loop μ-loop
 array-copy-out-worker-2 c =
-    let z = c .before .before .before .before .before .before .before .before .before .before .before .before .before .before .before .before .before .before .before .before .before .before .before .before .before .before .before .before .before .before .before .before .before .before .before .before .before .before .before .before .before .before .pre .0 in
+    let z = c .before .before .before .before .before .before .before .before .before .before .before .before .before .before .before .before .before .before .before .before .before .before .before .before .before .before .before .before .before .before .before .before .before .before .before .before .before .before .before .before .before .before .before .pre .0 in
     let m = c .before .before .before .loop2 in
     let u = m .inv .5 in
-    below-eight (whose-known (z .sound) (m .inv .1) (m .inv .2) (u .lent-fits) (z .turns-known) (u .within) (c .before .before .loop2-test .taken) (c .before .whose-turn .ensures)) (z .few-workers)
+    below-eight (whose-known (work-by-size z) (m .inv .1) (m .inv .2) (u .lent-fits) (u .within) (c .before .before .loop2-test .taken) (c .before .whose-turn .ensures)) (z .few-workers)
 
 slice-aggregate-step : tie.Need-slice-aggregate-step Inv-loop2 μ-loop2 Inv-loop μ-loop
 slice-aggregate-step c = sym (c .before .before .before .before .before .before .before .loop2 .inv .3)
@@ -155,36 +183,20 @@ slice-aggregate-step c = sym (c .before .before .before .before .before .before 
 slice-aggregate-step-2 : tie.Need-slice-aggregate-step-2 Inv-loop2 μ-loop2 Inv-loop μ-loop
 slice-aggregate-step-2 c = sym (c .before .before .before .before .before .before .before .before .loop2 .inv .4)
 
--- after the change of hands: the worker in hand is the one whose turn it is
-in-hand : (c : tie.Joined1 Inv-loop2 μ-loop2 Inv-loop μ-loop) → InHand (set (c .before .before .before .loop2 .workers) (c .before .before .before .loop2 .held) (c .before .before .before .loop2 .worker)) (c .if1 .workers) (c .if1 .held) (c .before .whose-turn .result) (c .if1 .worker)
-in-hand c =
-    let m = c .before .before .before .loop2 in
-    ⊎-elim (λ w. hand-changed (m .workers) (m .held) (c .before .whose-turn .result) (m .worker) (w .2) (w .3) (w .4))
-    (λ w. hand-kept (m .workers) (m .held) (c .before .whose-turn .result) (m .worker) (in-memory (m .workers) (m .held) (m .worker) (m .inv .7) (m .inv .5 .within .running .tally .table)) (w .0 .left) (w .1) (w .2) (w .3))
-    (c .if1 .came)
-
--- and it is one of the table's
-held-inside : (c : tie.Joined1 Inv-loop2 μ-loop2 Inv-loop μ-loop) → c .if1 .held < maxWorkers
-held-inside c =
-    let z = c .before .before .before .before .before .before .before .before .before .before .before .before .before .before .before .before .before .before .before .before .before .before .before .before .before .before .before .before .before .before .before .before .before .before .before .before .before .before .before .before .before .before .pre .0 in
-    let m = c .before .before .before .loop2 in
-    let u = m .inv .5 in
-    rw (in-hand c .whose) (below-eight (whose-known (z .sound) (m .inv .1) (m .inv .2) (u .lent-fits) (z .turns-known) (u .within) (c .before .before .loop2-test .taken) (c .before .whose-turn .ensures)) (z .few-workers))
-
 step-requires : tie.Need-step-requires Inv-loop2 μ-loop2 Inv-loop μ-loop
 step-requires c κs =
     let j = c .before .before .before .before .before in
-    let z = j .before .before .before .before .before .before .before .before .before .before .before .before .before .before .before .before .before .before .before .before .before .before .before .before .before .before .before .before .before .before .before .before .before .before .before .before .before .before .before .before .before .before .pre .0 in
+    let z = j .before .before .before .before .before .before .before .before .before .before .before .before .before .before .before .before .before .before .before .before .before .before .before .before .before .before .before .before .before .before .before .before .before .before .before .before .before .before .before .before .before .before .before .pre .0 in
     let m = j .before .before .before .loop2 in
-    hand-ready (z .sound) (m .inv .1) (m .inv .2) (z .turns-known) (m .inv .5) (m .inv .0) (j .before .before .loop2-test .taken) (j .before .whose-turn .ensures) (in-hand j)
+    hand-ready (work-by-size z) (m .inv .1) (m .inv .2) (m .inv .5) (m .inv .0) (j .before .before .loop2-test .taken) (j .before .whose-turn .ensures) (in-hand j) (j .before .before .before .before .before .before .before .before .before .by-size .ensures)
 
 note-requires : tie.Need-note-requires Inv-loop2 μ-loop2 Inv-loop μ-loop
 note-requires c κs =
-    let z = c .before .before .before .before .before .before .before .before .before .before .before .before .before .before .before .before .before .before .before .before .before .before .before .before .before .before .before .before .before .before .before .before .before .before .before .before .before .before .before .before .before .before .before .before .before .before .before .before .before .before .before .before .before .before .before .before .before .before .before .before .pre .0 in
+    let z = c .before .before .before .before .before .before .before .before .before .before .before .before .before .before .before .before .before .before .before .before .before .before .before .before .before .before .before .before .before .before .before .before .before .before .before .before .before .before .before .before .before .before .before .before .before .before .before .before .before .before .before .before .before .before .before .before .before .before .before .before .before .pre .0 in
     let m = c .before .before .before .before .before .before .before .before .before .before .before .before .before .before .before .before .before .before .before .before .before .loop2 in
     let u = m .inv .5 in
     let f = u .within .log-fits in
-    ((f .driving, f .inner, f .costs), few-pairs (within-few (z .sound) (m .inv .1) (m .inv .2) (z .some-worker) (z .few-workers) (u .within)) (m .inv .2) (z .sound .graph .few-tables))
+    ((f .driving, f .inner, f .costs), few-pairs (within-few (work-by-size z) (m .inv .1) (m .inv .2) (u .within)) (m .inv .2) (z .sound .graph .few-tables))
 
 entries-on-requires : tie.Need-entries-on-requires Inv-loop2 μ-loop2 Inv-loop μ-loop
 entries-on-requires c κs = tt
@@ -196,17 +208,7 @@ array-set-from-workers-2 : tie.Need-array-set-from-workers-2 Inv-loop2 μ-loop2 
 array-set-from-workers-2 c = held-inside (c .before .before .before .before .before .before .before .before .before .before .before .before .before .before .before .before .before .before .before .before .before .before .before .before .before .before .before .before .before .before .before)
 
 lowest-requires-2 : tie.Need-lowest-requires-2 Inv-loop2 μ-loop2 Inv-loop μ-loop
-lowest-requires-2 c κs = c .before .before .before .before .before .before .before .before .before .before .before .before .before .before .before .before .before .before .before .before .before .before .before .before .before .before .before .before .before .before .before .before .before .before .before .before .before .before .before .before .before .before .before .before .before .before .before .before .before .before .before .before .before .before .before .before .before .before .before .before .before .before .before .before .before .before .before .before .before .before .before .before .before .pre .0 .few-workers
-
--- the turn, in the shortest paths: the needs below have it at every length
-turned : (c : tie.After-entries-on Inv-loop2 μ-loop2 Inv-loop μ-loop)
-    → let j = c .before .before .before .before .before .before .before .before .before .before .before .before .before .before .before .before .before .before .before .before .before .before .before .before .before .before .before .before in let m = j .before .before .before .loop2 in let l = j .before .before .before .before .before .before .before .before .before .before .loop in let a = j .before .before .before .before .before .before .before .before .before .before .before .before .before .before .before .before .before .before .before .before .before .before .before .before .before .before .before .before .before .before .before .before .before .before .before .before .before .before .before .before .before .before .args in let o = j .before .before .before .before .before .before .«open» .result in
-    Turned (queryOf (a .rows .now) (a .scans .now) (a .left .now) (a .right .now) (a .divisors .now) (a .fixed .now) (a .outer .now) (a .inner .now) (a .result .now)) (a .scheme) (a .count) (a .turns .now) (l .k + 1) (j .before .before .before .before .before .lowest .result) (set o 0 (workerAt o 0)) (l .at) (l .pairs) (columns (l .costs) (l .outers) (l .methods)) (logOf (l .log-workers) (l .log-driving) (l .log-inner) (l .log-costs)) (m .low) (m .at) (set (m .workers) (m .held) (m .worker)) (j .if1 .workers) (j .if1 .held) (c .before .before .before .before .before .before .before .before .before .before .before .before .before .before .before .before .before .before .before .before .before .before .step .result .worker) (c .entries-on .result) (c .before .before .before .before .before .before .before .before .before .note .result) (columns (c .before .before .before .before .before .before .before .before .before .before .before .before .before .before .before .before .before .before .before .before .before .before .step .last .1 .1 .1 .1 .1 .1 .1 .1 .1 .1 .0) (c .before .before .before .before .before .before .before .before .before .before .before .before .before .before .before .before .before .before .before .before .before .before .step .last .1 .1 .1 .1 .1 .1 .1 .1 .1 .1 .1 .0) (c .before .before .before .before .before .before .before .before .before .before .before .before .before .before .before .before .before .before .before .before .before .before .step .last .1 .1 .1 .1 .1 .1 .1 .1 .1 .1 .1 .1 .0)) (logOf (c .before .before .before .before .before .before .before .before .before .note .last .0) (c .before .before .before .before .before .before .before .before .before .note .last .1 .0) (c .before .before .before .before .before .before .before .before .before .note .last .1 .1 .0) (c .before .before .before .before .before .before .before .before .before .note .last .1 .1 .1 .0))
-turned c =
-    let j = c .before .before .before .before .before .before .before .before .before .before .before .before .before .before .before .before .before .before .before .before .before .before .before .before .before .before .before .before in
-    let z = j .before .before .before .before .before .before .before .before .before .before .before .before .before .before .before .before .before .before .before .before .before .before .before .before .before .before .before .before .before .before .before .before .before .before .before .before .before .before .before .before .before .before .pre .0 in
-    let m = j .before .before .before .loop2 in
-    hand-turned (z .sound) (m .inv .1) (m .inv .2) (z .few-workers) (z .turns-known) (m .inv .5) (m .inv .6) (j .before .before .loop2-test .taken) (j .before .whose-turn .ensures) (in-hand j) (c .before .before .before .before .before .before .before .before .before .before .before .before .before .before .before .before .before .before .before .before .before .before .step .ensures) (c .entries-on .ensures) (c .before .before .before .before .before .before .before .before .before .note .ensures)
+lowest-requires-2 c κs = c .before .before .before .before .before .before .before .before .before .before .before .before .before .before .before .before .before .before .before .before .before .before .before .before .before .before .before .before .before .before .before .before .before .before .before .before .before .before .before .before .before .before .before .before .before .before .before .before .before .before .before .before .before .before .before .before .before .before .before .before .before .before .before .before .before .before .before .before .before .before .before .before .before .before .pre .0 .few-workers
 
 loop2-less : tie.Need-loop2-less Inv-loop2 μ-loop2 Inv-loop μ-loop
 loop2-less c = down-less (turned (c .before .before .before .before))
@@ -251,24 +253,24 @@ array-set-from-workers-3 : tie.Need-array-set-from-workers-3 Inv-loop2 μ-loop2 
 array-set-from-workers-3 c = c .before .loop2 .inv .7
 
 add-k : tie.Need-add-k Inv-loop2 μ-loop2 Inv-loop μ-loop
-add-k c = size-fits (c .before .before .before .before .before .before .before .before .loop .inv .1) (c .before .before .before .before .before .before .before .before .before .before .before .before .before .before .before .before .before .before .before .before .before .before .before .before .before .before .before .before .before .before .before .before .before .before .before .before .before .before .before .before .pre .0 .sound .graph .few-tables)
+add-k c = size-fits (c .before .before .before .before .before .before .before .before .before .loop .inv .1) (c .before .before .before .before .before .before .before .before .before .before .before .before .before .before .before .before .before .before .before .before .before .before .before .before .before .before .before .before .before .before .before .before .before .before .before .before .before .before .before .before .before .pre .0 .sound .graph .few-tables)
 
 loop-less : tie.Need-loop-less Inv-loop2 μ-loop2 Inv-loop μ-loop
-loop-less c = less-size (c .before .before .before .before .before .before .before .loop-test .taken)
+loop-less c = less-size (c .before .before .before .before .before .before .before .before .loop-test .taken)
 
 loop-again : tie.Need-loop-again Inv-loop2 μ-loop2 Inv-loop μ-loop
 loop-again c =
-    let z = c .before .before .before .before .before .before .before .before .before .before .before .before .before .before .before .before .before .before .before .before .before .before .before .before .before .before .before .before .before .before .before .before .before .before .before .before .before .before .before .before .pre .0 in
-    let l = c .before .before .before .before .before .before .before .before .loop in
+    let z = c .before .before .before .before .before .before .before .before .before .before .before .before .before .before .before .before .before .before .before .before .before .before .before .before .before .before .before .before .before .before .before .before .before .before .before .before .before .before .before .before .before .pre .0 in
+    let l = c .before .before .before .before .before .before .before .before .before .loop in
     let m = c .before .loop2 in
     let w = m .inv .6 .carry _ _ (z .log-fits) (opened (c .before .before .before)) in (
-      below-two (m .inv .1),
-      m .inv .2,
+      next-group (m .inv .1) (m .inv .2) .0,
+      next-group (m .inv .1) (m .inv .2) .1,
       l .inv .2,
       m .inv .0,
       m .inv .3,
       m .inv .4,
-      within-closed (z .sound) (m .inv .1) (m .inv .2) (z .some-worker) (z .few-workers) w (c .loop2-test .left),
+      within-closed (work-by-size z) (m .inv .1) (m .inv .2) w (c .loop2-test .left),
     )
 
 counts-of-requires : tie.Need-counts-of-requires Inv-loop2 μ-loop2 Inv-loop μ-loop
@@ -302,7 +304,7 @@ returns c =
     let s = c .before .before .before .before .before .before .before .before .before .before .before .before .before .before .before .before .before .before .before .before .before .before .before .before .before .before .before .before .before .before .before .before .before .before in
     let z = s .pre .0 in
     let l = c .before .before .loop in
-    let e : l .k ≡ length (s .args .rows .now) = all-sizes (l .inv .1) (l .inv .2) (c .before .loop-test .left) in
+    let e : l .k ≡ length (s .args .rows .now) = all-groups (l .inv .1) (l .inv .2) (c .before .loop-test .left) in
     rw (c .counts-of .ensures) (between-end z (c .before .before .before .before .before .before .lay-scans .ensures) (rw e at (l .inv .6)))
 
 pub search-spec : {M : Type 1} → statement M
@@ -319,7 +321,7 @@ search-spec =
     lay-scans-requires
     nobody-requires
     loop-holds
-    add-s
+    by-size-requires
     slice-aggregate-open
     slice-aggregate-open-2
     open-requires
