@@ -1,17 +1,22 @@
--- Opening a size, its turns and its end, as the program meets them.
-use mathlib.Core.Path.{_≡_, refl, sym, ap, _∙_}
+-- Opening a group, its turns and its end, as the program meets them.
+use mathlib.Core.Path.{_≡_, sym, ap, _∙_}
 use mathlib.Core.Logic.{_⊎_, inl, inr, ⊎-elim}
 use mathlib.Core.Bool.{Bool, true, false, cond}
 use mathlib.Core.List.{List, [], _∷_}
-use Prim.Native.Nat.{ℕ, _+_, _-_, _≤_, _<_}
+use Prim.Native.Nat.{ℕ, _+_, _-_, _*_, _≤_, _<_}
 use native.Mathlib.Decide.{decLt}
+use native.Mathlib.Numerals.{add-one}
 use native.Mathlib.Omega.{arith}
 use lib.Dec.{ltb}
 use lib.Pow.{pow-mono}
 use lib.ListN.{length, getD, length-set, replicate, getD-replicate}
 use borrow.Author.Tests.{ltb-true}
 use Rattle.rules.specs.Limits.{maxWorkers}
+use Rattle.rules.specs.declared.Crew.{Crew}
+use Rattle.rules.specs.declared.Group.{Group}
 use Rattle.rules.specs.declared.Scheme.{Scheme}
+use Rattle.rules.specs.Schedule.{Schedule, bySize}
+use Rattle.rules.specs.laws.Schedule.{by-size}
 use Rattle.rules.specs.Query.{Graph, Query, tableCount}
 use Rattle.rules.specs.Rows.{memo}
 use Rattle.rules.specs.Shares.{met}
@@ -28,41 +33,41 @@ use Rattle.skips.specs.Vectors.{written}
 use Rattle.starts.specs.Starts.{starts, cellStarts}
 use Rattle.memo.specs.Layout.{Lent, OneLength, Room, laid, LaidOut}
 use Rattle.memo.specs.LayoutLaws.{still-long, one-length}
-use Rattle.shares.specs.Shares.{shareOf}
-use Rattle.pairs.specs.PlaceLaws.{met-few}
-use Rattle.results.specs.Prices.{kept}
+use Rattle.shares.specs.Shares.{few}
+use Rattle.pairs.specs.Places.{Fit}
+use Rattle.rules.specs.laws.Reference.{kept}
 use Rattle.crew.specs.declared.Worker.{Worker}
 use Rattle.crew.specs.declared.Handed as code
 use Rattle.opening.specs.Opening.{Opened}
-use Rattle.turns.specs.Standing.{Columns, columns, choiceIn, Reach, Board, Ready, Crew, TurnTaken, Final}
+use Rattle.turns.specs.Standing.{Columns, columns, choiceIn, topOf, Reach, Board, Ready, InPlace, TurnTaken, Final, Work}
 use Rattle.crew.specs.Workers.{nobody, workerAt}
-use Rattle.turns.specs.StandingLaws.{standing-open, standing-turn, standing-closed}
-use Rattle.turns.specs.QueueLaws.{waits-inside, stillMet, turn-progress, turn-progress-none}
+use Rattle.turns.specs.StandingLaws.{open-first, open-places, top-is, fit-is, few-handed, standing-open, standing-turn, standing-closed}
+use Rattle.turns.specs.QueueLaws.{stillMet, turn-progress, turn-progress-none}
 use Rattle.turns.specs.StepLaws.{set-at, driving-inside, inner-inside}
 use Rattle.turns.specs.StartLaws.{tables-fit, Starting, final-start, reach-start, ground-of, Prepared, estimated-of, board-of}
 use Rattle.crew.specs.Whose.{LowestLeft, whose, entriesOn}
-use Rattle.rounds.specs.Rounds.{Printable, Shown, Listed, Between, Within, Started}
+use Rattle.rounds.specs.Rounds.{Printable, Shown, Between, Within, Started}
 
 -- whoever has the turn is one of the workers
-pub whose-known : {m : ℕ} {turns : List ℕ} (used low : ℕ) {w : ℕ} → Listed m turns → low < m → w ≡ whose turns used low → w < m
-whose-known {m} {turns} used low {w} z l e = go (true-or-false (ltb used (length turns)))
+pub whose-known : {q : Query} {crew : Crew} {groups : Schedule} {turns : List ℕ} (used low : ℕ) {w : ℕ} → Work q crew groups turns → low < crew .workers → w ≡ whose turns used low → w < crew .workers
+whose-known {crew = crew} {turns = turns} used low {w} z l e = go (true-or-false (ltb used (length turns)))
   where
     is : (b : Bool) → ltb used (length turns) ≡ b → w ≡ cond b (getD turns used 0) low
     is b t = e ∙ ap (λ (x : Bool). cond x (getD turns used 0) low) t
 
-    go : (ltb used (length turns) ≡ true) ⊎ (ltb used (length turns) ≡ false) → w < m
-    go (inl t) = omega (arith, is true t, z .below used (ltb-true used (length turns) t))
+    go : (ltb used (length turns) ≡ true) ⊎ (ltb used (length turns) ≡ false) → w < crew .workers
+    go (inl t) = omega (arith, is true t, z .turns-known used (ltb-true used (length turns) t))
     go (inr t) = omega (arith, is false t)
 
 -- a row's set can be printed
 printable-row : (g : Graph) → GoodGraph g → (r : ℕ) → r < length (memo g) → Printable (getD (memo g) r 0)
 printable-row g good r l = omega (arith, below-all g (getD (memo g) r 0) (memo-only g (getD (memo g) r 0) (at-in 0 (memo g) r l)), pow-mono {i = tableCount g} {j = 32} (omega (arith, good .few-tables)))
 
-module _ {g : Graph} {fixed outer inner result sets estimates cells starts cellStarts : List ℕ} {s : ℕ} {c : Columns} (b : Board g fixed outer inner result sets estimates cells starts cellStarts s c) where
+module _ {g : Graph} {fixed outer inner result sets estimates cells starts cellStarts : List ℕ} {group : Group} {c : Columns} (b : Board g fixed outer inner result sets estimates cells starts cellStarts group c) where
   -- so can where a worker waits
-  pub shown-of : {scheme : Scheme} {m : ℕ} {workers : List Worker} → Crew g s scheme m workers → (w : ℕ) → w < m → Shown sets (workerAt workers w)
-  shown-of {scheme} {m} z w l = record {
-    share = rw (z .share w l) (cut-mono (length (met g s)) m w (w + 1) (omega arith) (omega arith));
+  pub shown-of : {crew : Crew} {workers : List Worker} → InPlace g group crew workers → (w : ℕ) → w < crew .workers → Shown sets (workerAt workers w)
+  shown-of {crew} z w l = record {
+    share = rw (z .share w l) (cut-mono (length (met g group)) (crew .workers) w (w + 1) (omega arith) (omega arith));
     driving = λ e.
         let i = driving-inside b (z .ready w l) e in
         let x = set-at b _ i in
@@ -73,9 +78,9 @@ module _ {g : Graph} {fixed outer inner result sets estimates cells starts cellS
         (x .0, rw (x .1) (printable-row g (b .graph) _ i));
   }
 
-  module _ {w : ℕ} {workers workers′ : List Worker} {new : Columns} {pair : code.Handed} (t : TurnTaken g fixed outer inner result s w workers workers′ c new pair) where
+  module _ {w : ℕ} {workers workers′ : List Worker} {new : Columns} {pair : code.Handed} (t : TurnTaken g fixed outer inner result group w workers workers′ c new pair) where
     -- and what a turn hands
-    pub printable-pair : Ready g s (workerAt workers w) → Printable (pair .driving) × Printable (pair .inner)
+    pub printable-pair : Ready g group (workerAt workers w) → Printable (pair .driving) × Printable (pair .inner)
     printable-pair r = ⊎-elim some none (true-or-false (workerAt workers w .place .left))
       where
         some : workerAt workers w .place .left ≡ true → Printable (pair .driving) × Printable (pair .inner)
@@ -105,74 +110,72 @@ module _ {g : Graph} {fixed outer inner result sets estimates cells starts cellS
         none : workerAt workers w .place .left ≡ false → Reach g new
         none e = rw (t .step .none e .1) (b .reach)
 
--- before size 2 nothing was handed
-pub first-between : {q : Query} {m : ℕ} {c : Columns} {v : Worker} → m ≤ maxWorkers → v ≡ nobody → Reach (q .graph) c → Final q 2 c → Between q m 2 (replicate 8 v) c
+-- before the first group nothing was handed
+pub first-between : {q : Query} {crew : Crew} {c : Columns} {v : Worker} → crew .workers ≤ maxWorkers → v ≡ nobody → Reach (q .graph) c → Final q crew (bySize (q .shape)) 1 c → Between q crew 1 (replicate 8 v) c
 first-between {v = v} few-workers e r f = record { reach = r; final = f; handed = λ w l. omega (arith, ap (λ (x : Worker). x .handed) (getD-replicate 8 w v nobody (omega arith) ∙ e)) }
 
-module _ {q : Query} {sets estimates cells starts cellStarts : List ℕ} (p : Prepared q sets estimates cells starts cellStarts) {m s : ℕ} {turns : List ℕ} (crew : Listed m turns)
-    (two : 2 ≤ s) (known : s ≤ tableCount (q .graph)) where
-  -- a size is opened
-  pub opened-within : {scheme : Scheme} {workers workers′ : List Worker} {c : Columns} → Between q m s workers c → Opened (q .graph) s scheme m workers workers′ → Within q m s workers′ c
-  opened-within {scheme} {workers} {workers′} {c} b o = record {
-    scheme = scheme;
-    reach = b .reach;
-    standing = standing-open q (p .sound) scheme m s two known workers′ c (b .final) (record { ready = ready; share = share }) (λ w l. rw (share w l) (o .first w l));
-  }
+module _ {q : Query} {crew : Crew} {turns : List ℕ} (work : Work q crew (bySize (q .shape)) turns) {k : ℕ} (one : 1 ≤ k) (known : k ≤ tableCount (q .graph) - 1) {group : Group} (is : group ≡ bySize (q .shape) k) where
+  -- it fits
+  pub group-fit : Fit (q .graph) group
+  group-fit = rw is (fit-is work one known)
+
+  -- it is opened
+  pub opened-within : {workers workers′ : List Worker} {c : Columns} → Between q crew k workers c → Opened (q .graph) group crew workers workers′ → Within q crew k workers′ c
+  opened-within {workers} {workers′} {c} b o′ = record { reach = b .reach; standing = standing-open work one known (open-places o (work .some-worker) (work .few-workers) bound) (open-first o) c (b .final) }
     where
-      share : (w : ℕ) → w < m → workerAt workers′ w .share ≡ shareOf scheme m w (length (met (q .graph) s))
-      share w l = ap (λ (v : Worker). v .share) (o .worker w l)
+      o : Opened (q .graph) (bySize (q .shape) k) crew workers workers′
+      o = rw is at o′
 
-      ready : (w : ℕ) → w < m → Ready (q .graph) s (workerAt workers′ w)
-      ready w l = record {
-        share = rw (share w l) (record { some-worker = crew .some; few-workers = crew .few-workers; worker = l; is = refl });
-        waits = rw (share w l) (o .first w l .waits);
-        handed = omega (arith, ap (λ (v : Worker). v .handed) (o .worker w l), b .handed w l);
-      }
+      bound : (w : ℕ) → w < crew .workers → workerAt workers w .handed ≤ (topOf (bySize (q .shape) k) - 1) * few
+      bound w l = rw (top-is work one known) (b .handed w l)
 
-  module _ {workers : List Worker} {c : Columns} (z : Within q m s workers c) where
+  module _ {workers : List Worker} {c : Columns} (z : Within q crew k workers c) where
+    -- each worker is at its place
+    pub within-places : InPlace (q .graph) group crew workers
+    within-places = rw is (z .standing .places)
+
     -- a turn of it may be taken
-    pub within-board : Board (q .graph) (q .fixed) (q .perOuter) (q .perInner) (q .perResult) sets estimates cells starts cellStarts s c
-    within-board = board-of p two known (z .reach) (z .standing .smaller)
+    pub within-board : {sets estimates cells starts cellStarts : List ℕ} → Prepared q sets estimates cells starts cellStarts → Board (q .graph) (q .fixed) (q .perOuter) (q .perInner) (q .perResult) sets estimates cells starts cellStarts group c
+    within-board p =
+        let e = top-is work one known in
+        rw is (board-of p (fit-is work one known) (omega (arith, e)) (z .reach) (λ S d l. z .standing .rows .final S d (omega (arith, e))))
 
-    module _ {w : ℕ} {workers′ : List Worker} {new : Columns} {pair : code.Handed} (l : w < m)
-        (t : TurnTaken (q .graph) (q .fixed) (q .perOuter) (q .perInner) (q .perResult) s w workers workers′ c new pair) where
+    module _ {w : ℕ} {workers′ : List Worker} {new : Columns} {pair : code.Handed} (l : w < crew .workers)
+        (t : TurnTaken (q .graph) (q .fixed) (q .perOuter) (q .perInner) (q .perResult) group w workers workers′ c new pair) where
       -- is taken
-      pub turned-within : Within q m s workers′ new
-      turned-within = record {
-        scheme = z .scheme;
-        reach = turn-reach within-board t;
-        standing = standing-turn q (p .sound) (z .scheme) m s two known workers workers′ c new pair w l (z .reach) (z .standing) t;
+      pub turned-within : {sets estimates cells starts cellStarts : List ℕ} → Prepared q sets estimates cells starts cellStarts → Within q crew k workers′ new
+      turned-within p = record {
+        reach = turn-reach (within-board p) t;
+        standing = standing-turn work one known l (z .reach) (z .standing) (rw is at t);
       }
 
       -- and uses up an entry of the list, or passes a candidate of the lowest worker
-      pub turned-less : (used low : ℕ) {used′ : ℕ} → LowestLeft workers m low → low < m → w ≡ whose turns used low → used′ ≡ entriesOn (length turns) used
-          → length turns - used′ + stillMet (q .graph) s m workers′ < length turns - used + stillMet (q .graph) s m workers
-      turned-less used low {used′} n k e f = go (true-or-false (ltb used (length turns)))
+      pub turned-less : (used low : ℕ) {used′ : ℕ} → LowestLeft workers (crew .workers) low → low < crew .workers → w ≡ whose turns used low → used′ ≡ entriesOn (length turns) used
+          → length turns - used′ + stillMet (q .graph) group (crew .workers) workers′ < length turns - used + stillMet (q .graph) group (crew .workers) workers
+      turned-less used low {used′} n j e f = go (true-or-false (ltb used (length turns)))
         where
-          fewer : workerAt workers w .place .left ≡ true → stillMet (q .graph) s m workers′ < stillMet (q .graph) s m workers
-          fewer h = turn-progress (z .standing .crew) l t h
+          fewer : workerAt workers w .place .left ≡ true → stillMet (q .graph) group (crew .workers) workers′ < stillMet (q .graph) group (crew .workers) workers
+          fewer h = turn-progress within-places l t h
 
-          no-more : stillMet (q .graph) s m workers′ ≤ stillMet (q .graph) s m workers
-          no-more = ⊎-elim (λ h. omega (arith, fewer h)) (λ h. omega (arith, turn-progress-none (z .standing .crew) l t h)) (true-or-false (workerAt workers w .place .left))
+          no-more : stillMet (q .graph) group (crew .workers) workers′ ≤ stillMet (q .graph) group (crew .workers) workers
+          no-more = ⊎-elim (λ h. omega (arith, fewer h)) (λ h. omega (arith, turn-progress-none within-places l t h)) (true-or-false (workerAt workers w .place .left))
 
-          go : (ltb used (length turns) ≡ true) ⊎ (ltb used (length turns) ≡ false) → length turns - used′ + stillMet (q .graph) s m workers′ < length turns - used + stillMet (q .graph) s m workers
+          go : (ltb used (length turns) ≡ true) ⊎ (ltb used (length turns) ≡ false) → length turns - used′ + stillMet (q .graph) group (crew .workers) workers′ < length turns - used + stillMet (q .graph) group (crew .workers) workers
           go (inl b) =
               let i : used′ ≡ used + 1 = f ∙ ap (λ (x : Bool). cond x (used + 1) used) b in
               omega (arith, no-more, ltb-true used (length turns) b)
           go (inr b) =
               let i : used′ ≡ used = f ∙ ap (λ (x : Bool). cond x (used + 1) used) b in
               let h : low ≡ w = sym (e ∙ ap (λ (x : Bool). cond x (getD turns used 0) low) b) in
-              omega (arith, fewer (rw h at (n .left k)))
+              omega (arith, fewer (rw h at (n .left j)))
 
     -- it ends where no worker has a pair left
-    pub closed-between : {low : ℕ} → LowestLeft workers m low → m ≤ low → Between q m (s + 1) workers c
-    closed-between {low} n e = record {
+    pub closed-between : {low : ℕ} → LowestLeft workers (crew .workers) low → crew .workers ≤ low → Between q crew (k + 1) workers c
+    closed-between {low} n e = rw (add-one k) (record {
       reach = z .reach;
-      final = standing-closed q (p .sound) (z .scheme) m s two known workers c (crew .some) (z .standing) (λ w l. n .lower w (omega arith));
-      handed = λ w l.
-          let v = z .standing .crew .ready w l in
-          omega (arith, v .handed, waits-inside (q .graph) s (workerAt workers w .share) (workerAt workers w .place) (v .waits), met-few (q .graph) (p .sound .graph) s known);
-    }
+      final = standing-closed work one known (z .standing .places) (λ w l. n .lower w (omega arith)) c (z .standing);
+      handed = λ w l. omega (arith, few-handed work one known (z .standing .places) w l);
+    })
 
 -- ---- laying out
 module _ (q : Query) (workers scheme : ℕ) (turns log : List ℕ) (old : Lent) {new : Lent} {r : Laid}
@@ -210,11 +213,11 @@ module _ (q : Query) (workers scheme : ℕ) (turns log : List ℕ) (old : Lent) 
       let zeros = replicate (length (memo (q .graph))) z in
       omega (arith, sound .scan-list, tables-fit (q .graph) (sound .graph), room .rows, one .costs, still-long zeros (old .costs) (ap (λ (x : Lent). x .costs) is))
 
-  -- and size 2 may be opened
-  pub started-of : (oldStarts oldCellStarts : List ℕ) {costs starts₁ cellStarts₁ : List ℕ} → tableCount (q .graph) + 2 ≤ length oldStarts → tableCount (q .graph) + 2 ≤ length oldCellStarts
+  -- and the first group may be opened
+  pub started-of : (named : Scheme) (oldStarts oldCellStarts : List ℕ) {costs starts₁ cellStarts₁ : List ℕ} → tableCount (q .graph) + 2 ≤ length oldStarts → tableCount (q .graph) + 2 ≤ length oldCellStarts
       → starts₁ ≡ written oldStarts 0 (starts (q .graph)) → cellStarts₁ ≡ written oldCellStarts 0 (cellStarts (q .graph)) → costs ≡ written (new .costs) 0 (q .scans)
-      → Started q workers turns (new .sets) (new .estimates) (new .skips) starts₁ cellStarts₁ (columns costs (new .outers) (new .methods))
-  started-of oldStarts oldCellStarts {costs} a b e f h =
+      → Started q (record { workers = workers; scheme = named }) turns (new .sets) (new .estimates) (new .skips) starts₁ cellStarts₁ (columns costs (new .outers) (new .methods))
+  started-of named oldStarts oldCellStarts {costs} a b e f h =
       let z : Starting q (old .costs) (old .outers) (old .methods) (columns costs (new .outers) (new .methods)) = record {
         costs-room = omega (arith, room .rows, one .costs);
         outers-room = omega (arith, room .rows, one .outers);
@@ -231,7 +234,7 @@ module _ (q : Query) (workers scheme : ℕ) (turns log : List ℕ) (old : Lent) 
           ground = ground-of (q .graph) (old .sets) (old .skips) oldStarts oldCellStarts (room .rows) (room .cells) a b (ap (λ (x : Lent). x .sets) is) (ap (λ (x : Lent). x .skips) is) e f;
           estimated = estimated-of (q .graph) (old .estimates) (omega (arith, room .rows, one .estimates)) (ap (λ (x : Lent). x .estimates) is);
         };
-        listed = record { some = crew .some-worker; few-workers = crew .few-workers; below = turns-of q workers scheme turns lengths log passed };
+        work = record { sound = sound; some-worker = crew .some-worker; few-workers = crew .few-workers; turns-known = turns-of q workers scheme turns lengths log passed; serves = by-size (q .shape) (tableCount (q .graph)) };
         reach = reach-start q sound z;
-        final = final-start q sound z;
+        final = final-start q sound z (record { workers = workers; scheme = named }) (bySize (q .shape));
       }

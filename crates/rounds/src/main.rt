@@ -10,6 +10,8 @@ use memo::layout::lay_out;
 use opening::open;
 use refusals::check;
 use rows::tally::tally;
+use rules::Crew;
+use rules::Group;
 use rules::Scheme;
 use sets::lowest_table;
 use sets::single;
@@ -17,14 +19,16 @@ use shares::Share;
 use starts::lay_starts;
 use turns::scans::lay_scans;
 use turns::turn::turn;
-ghost use Prim.Native.Nat.{ℕ, _+_, _≤_, _<_};
+ghost use Prim.Native.Nat.{ℕ, _+_, _-_, _≤_, _<_};
 ghost use lib.ListN.{length};
 ghost use Rattle.rules.specs.Limits.{maxWorkers};
+ghost use Rattle.rules.specs.declared.Shape.the-variants.{Bushy};
+ghost use Rattle.rules.specs.Schedule.{bySize};
 ghost use Rattle.query.specs.Lists.{queryOf};
-ghost use Rattle.turns.specs.Standing.{columns};
+ghost use Rattle.turns.specs.Standing.{columns, Work};
 ghost use Rattle.crew.specs.Workers.{workerAt};
 ghost use Rattle.turns.specs.StartLaws.{Prepared};
-ghost use Rattle.rounds.specs.Rounds.{Printable, Shown, Listed, Between, Within, Started};
+ghost use Rattle.rounds.specs.Rounds.{Printable, Shown, Between, Within, Started};
 
 const STDOUT: i32 = 1;
 
@@ -125,11 +129,13 @@ fn print_places(sets: &[u64], workers: [Worker; 8], count: usize)
 }
 
 // A size as it is opened; under scheme 1 with the workers' shares, which are cuts of its candidates.
-fn print_size(sets: &[u64], s: usize, scheme: Scheme, workers: [Worker; 8], count: usize)
-    requires { ⌜ (count ≤ maxWorkers) × ((w : ℕ) → w < count → Shown (now sets) (workerAt workers w)) ⌝ }
+fn print_size(sets: &[u64], size: usize, crew: Crew, workers: [Worker; 8])
+    requires { ⌜ (crew .workers ≤ maxWorkers) × ((w : ℕ) → w < crew .workers → Shown (now sets) (workerAt workers w)) ⌝ }
 {
+    let scheme = crew.scheme;
+    let count = crew.workers as usize;
     put(b"size ");
-    io::print_decimal(STDOUT, s as u64);
+    io::print_decimal(STDOUT, size as u64);
     put(b"\n");
     if scheme.number() == 1 {
         print_shares(workers, count);
@@ -137,7 +143,7 @@ fn print_size(sets: &[u64], s: usize, scheme: Scheme, workers: [Worker; 8], coun
     print_places(sets, workers, count);
 }
 
-// Turns of size `s` until no worker has a pair left: first the entries of the list, then the lowest-numbered worker. The scan costs are
+// Turns of group `k` until no worker has a pair left: first the entries of the list, then the lowest-numbered worker. The scan costs are
 // named in the promise alone.
 fn take_turns(
     rows: &[u64],
@@ -157,20 +163,21 @@ fn take_turns(
     skips: &[u64],
     starts: &[usize],
     cells: &[usize],
-    s: usize,
-    count: usize,
+    k: usize,
+    crew: Crew,
     turns: &[u64],
     opened: State,
 ) -> State
     requires { ⌜ Prepared (queryOf (now rows) (now scans) (now left) (now right) (now divisors) (now fixed) (now outer) (now inner) (now result)) (now sets) (now estimates) (now skips) (now starts) (now cells) ⌝ }
-    requires { ⌜ (2 ≤ s) × (s ≤ length (now rows)) × Listed count (now turns) ⌝ }
-    requires { ⌜ Within (queryOf (now rows) (now scans) (now left) (now right) (now divisors) (now fixed) (now outer) (now inner) (now result)) count s (opened .workers) (columns (now costs) (now outers) (now methods)) ⌝ }
-    ensures { λ r. ⌜ Between (queryOf (now (rows .entry)) (now (scans .entry)) (now (left .entry)) (now (right .entry)) (now (divisors .entry)) (now (fixed .entry)) (now (outer .entry)) (now (inner .entry)) (now (result .entry))) count (s + 1) (r .workers) (columns (now (costs .exit)) (now (outers .exit)) (now (methods .exit))) ⌝ }
+    requires { ⌜ (1 ≤ k) × (k ≤ length (now rows) - 1) × Work (queryOf (now rows) (now scans) (now left) (now right) (now divisors) (now fixed) (now outer) (now inner) (now result)) crew (bySize Bushy) (now turns) ⌝ }
+    requires { ⌜ Within (queryOf (now rows) (now scans) (now left) (now right) (now divisors) (now fixed) (now outer) (now inner) (now result)) crew k (opened .workers) (columns (now costs) (now outers) (now methods)) ⌝ }
+    ensures { λ r. ⌜ Between (queryOf (now (rows .entry)) (now (scans .entry)) (now (left .entry)) (now (right .entry)) (now (divisors .entry)) (now (fixed .entry)) (now (outer .entry)) (now (inner .entry)) (now (result .entry))) crew (k + 1) (r .workers) (columns (now (costs .exit)) (now (outers .exit)) (now (methods .exit))) ⌝ }
 {
+    let group = Group::by_size(k);
     let mut workers = opened.workers;
     let mut used = opened.used;
-    let mut low = lowest(workers, count);
-    while low < count {
+    let mut low = lowest(workers, crew.workers as usize);
+    while low < crew.workers as usize {
         let w = whose_turn(turns, used, low);
         used = entries_on(turns.len(), used);
         let turned = turn(
@@ -190,7 +197,7 @@ fn take_turns(
             skips,
             starts,
             cells,
-            s,
+            group,
             workers,
             w,
         );
@@ -198,7 +205,7 @@ fn take_turns(
         let pair = turned.pair;
         workers = moved;
         print_pair(w, pair);
-        low = lowest(workers, count);
+        low = lowest(workers, crew.workers as usize);
     }
     State {
         workers: workers,
@@ -206,7 +213,7 @@ fn take_turns(
     }
 }
 
-// Opens each size, prints where its workers wait, and takes its turns.
+// Opens the group of each size, prints where its workers wait, and takes its turns.
 fn run_sizes(
     rows: &[u64],
     scans: &[u64],
@@ -225,19 +232,19 @@ fn run_sizes(
     skips: &[u64],
     starts: &[usize],
     cells: &[usize],
-    scheme: Scheme,
-    count: usize,
+    crew: Crew,
     turns: &[u64],
 )
-    requires { ⌜ Started (queryOf (now rows) (now scans) (now left) (now right) (now divisors) (now fixed) (now outer) (now inner) (now result)) count (now turns) (now sets) (now estimates) (now skips) (now starts) (now cells) (columns (now costs) (now outers) (now methods)) ⌝ }
+    requires { ⌜ Started (queryOf (now rows) (now scans) (now left) (now right) (now divisors) (now fixed) (now outer) (now inner) (now result)) crew (now turns) (now sets) (now estimates) (now skips) (now starts) (now cells) (columns (now costs) (now outers) (now methods)) ⌝ }
 {
     let nobody = nobody();
     let mut state = State {
         workers: [nobody; 8],
         used: 0,
     };
-    let mut s = 2;
-    while s <= rows.len() {
+    let mut k = 1;
+    while k < rows.len() {
+        let group = Group::by_size(k);
         let old = state.workers;
         let workers = open(
             rows,
@@ -248,12 +255,11 @@ fn run_sizes(
             skips,
             starts,
             cells,
-            s,
-            scheme,
-            count,
+            group,
+            crew,
             old,
         );
-        print_size(sets, s, scheme, workers, count);
+        print_size(sets, k + 1, crew, workers);
         let opened = State {
             workers: workers,
             used: state.used,
@@ -276,12 +282,12 @@ fn run_sizes(
             skips,
             starts,
             cells,
-            s,
-            count,
+            k,
+            crew,
             turns,
             opened,
         );
-        s += 1;
+        k += 1;
     }
 }
 
@@ -355,6 +361,10 @@ fn play(
     }
     lay_starts(rows, left, right, divisors, &counts, starts, cells);
     lay_scans(scans, costs);
+    let crew = Crew {
+        workers: workers,
+        scheme: scheme,
+    };
     run_sizes(
         rows,
         scans,
@@ -373,8 +383,7 @@ fn play(
         skips,
         starts,
         cells,
-        scheme,
-        workers as usize,
+        crew,
         turns,
     );
 }
