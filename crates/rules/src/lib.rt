@@ -237,7 +237,7 @@ pub struct Group {
 }
 
 impl Group {
-    // Group `k` of document 01's order of work: the candidates whose result has k + 1 tables, for plans of any shape.
+    // Group `k` of document 01's order of work, for bushy plans: the candidates whose result has k + 1 tables.
     pub fn by_size(k: usize) -> Group
         requires { ⌜ k ≤ maxTables ⌝ }
         ensures { λ r. ⌜ r ≡ bySize Bushy k ⌝ }

@@ -102,6 +102,11 @@ number-is n (c ∷ cs) x y (List·Memᴰ·tail m) (List·Memᴰ·head f) p = abs
 number-is n (c ∷ cs) x y (List·Memᴰ·tail m) (List·Memᴰ·tail k) p = number-is (suc n) cs x y m k p
 
 -- ---- the memo as turns leave it
+-- once the pairs P were handed: sets of at most k tables are final, each other row is the best of P for its set, or unset
+pub record Held (q : Query) (k : ℕ) (P : Pair → Type 0) (row : ℕ → Choice) : Type 0 where
+  pub final : (S : ℕ) → Connected (q .graph) S → size S ≤ k → FinalRow q S (row S)
+  pub rows : (S : ℕ) → Connected (q .graph) S → k < size S → Stood q P S (row S)
+
 module _ (q : Query) (crew : Crew) (groups : Schedule) where
   -- a pair of a group before k
   pub record Before (k : ℕ) (p : Pair) : Type 0 where
@@ -127,15 +132,13 @@ module _ (q : Query) (crew : Crew) (groups : Schedule) where
   abbrev pub Sofar : ℕ → (ℕ → ℕ) → Pair → Type 0
   Sofar k place p = Before k p ⊎ Passed k place p
 
-  -- before group k opens: sets of at most k tables are final, each other row is the best of the pairs handed, or unset
-  pub record Between (k : ℕ) (row : ℕ → Choice) : Type 0 where
-    pub final : (S : ℕ) → Connected (q .graph) S → size S ≤ k → FinalRow q S (row S)
-    pub rows : (S : ℕ) → Connected (q .graph) S → k < size S → Stood q (Before k) S (row S)
+  -- before group k opens
+  abbrev pub Between : ℕ → (ℕ → Choice) → Type 0
+  Between k row = Held q k (Before k) row
 
-  -- the same while it is open, with the workers at their places
-  pub record Standing (k : ℕ) (place : ℕ → ℕ) (row : ℕ → Choice) : Type 0 where
-    pub final : (S : ℕ) → Connected (q .graph) S → size S ≤ k → FinalRow q S (row S)
-    pub rows : (S : ℕ) → Connected (q .graph) S → k < size S → Stood q (Sofar k place) S (row S)
+  -- while it is open, with the workers at their places
+  abbrev pub Standing : ℕ → (ℕ → ℕ) → (ℕ → Choice) → Type 0
+  Standing k place row = Held q k (Sofar k place) row
 
   -- START: scans stand, all else is unset
   pub between-start : (row : ℕ → Choice) → ((t : ℕ) → IsTable (q .graph) t → row (single t) ≡ record { cost = at (q .scans) t; outer = 0; method = 0 })

@@ -58,7 +58,7 @@ module _ (shape : Shape) (N : ℕ) where
 pub by-size : (shape : Shape) (N : ℕ) → Scheduled shape N (N - 1) (bySize shape)
 by-size shape N = record { home = homeOf; complete = complete shape N; sound = sound shape N; reads = λ d e a. omega arith; builds = λ d e a. omega arith; ways = ways shape N }
 
--- its group k for any shape, as it is computed
+-- its group k for bushy plans, as it is computed
 pub by-size-is : (k : ℕ) → record { last = (k + 1) / 2; base = k + 1; falling = true; both = true } ≡ bySize Bushy k
 unfolding bySize drivings fits
 by-size-is k = rw (add-one k) refl
