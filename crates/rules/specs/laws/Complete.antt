@@ -103,6 +103,9 @@ pair-met g group p j z =
 abbrev pub swap : Pair → Pair
 swap p = record { driving = p .inner; inner = p .driving }
 
+pub joinable-swap : {g : Graph} {p : Pair} → JoinablePair g p → JoinablePair g (swap p)
+joinable-swap d = record { driving-conn = d .inner-conn; inner-conn = d .driving-conn; joinable = joinable-sym (d .joinable) }
+
 -- ---- the turns of a group
 module _ (g : Graph) (crew : Crew) (group : Group) where
   -- worker w has the candidate and may join it
@@ -344,9 +347,6 @@ module _ (g : Graph) (crew : Crew) (workers : 0 < crew .workers) (groups : Sched
           r : (j : ℕ) × (k ≤ j) × (j < k + n) × (InGroup (groups j) p ⊎ InGroup (groups j) (swap p))
           r = where-it-is p d f w
 
-          back : JoinablePair g (swap p)
-          back = record { driving-conn = d .inner-conn; inner-conn = d .driving-conn; joinable = joinable-sym (d .joinable) }
-
           pick : InGroup (groups (r .0)) p ⊎ InGroup (groups (r .0)) (swap p) → List·Memᴰ p (map pairOf h) ⊎ List·Memᴰ (swap p) (map pairOf h)
           pick (inl s) = groups-total k n ts h t z (r .0) (r .1) (r .2) p d s
-          pick (inr s) = ⊎-elim (λ a. inr a) (λ a. inl a) (groups-total k n ts h t z (r .0) (r .1) (r .2) (swap p) back s)
+          pick (inr s) = ⊎-elim (λ a. inr a) (λ a. inl a) (groups-total k n ts h t z (r .0) (r .1) (r .2) (swap p) (joinable-swap d) s)

@@ -1,7 +1,7 @@
 -- Over any schedule: all pairs are handed once, and every part that a turn reads is final, its pairs having been handed in the groups before.
 use mathlib.Core.Path.{_≡_, refl, ap, subst}
 use mathlib.Core.Logic.{_⊎_, inl, inr, ⊎-elim}
-use mathlib.Core.List.{List, [], _∷_, _++_, map, List·Memᴰ, List·Memᴰ·head, Memᴰ·append-left, Memᴰ·append-right, Memᴰ·map, Memᴰ·of-map}
+use mathlib.Core.List.{List, [], _∷_, _++_, map, List·Memᴰ, Memᴰ·append-left, Memᴰ·of-map}
 use Prim.Native.Nat.{ℕ, zero, suc, _+_, _-_, _≤_, _<_}
 use native.Mathlib.Decide.{decLt}
 use native.Mathlib.Omega.{arith}
@@ -16,11 +16,11 @@ use Rattle.rules.specs.Turns.{Hand, Groups}
 use Rattle.rules.specs.Log.{setsOf, pairOf}
 use Rattle.rules.specs.laws.Lists.{Once, once-append}
 use Rattle.rules.specs.laws.Sets.{splits-size, size-pos}
-use Rattle.rules.specs.laws.Connected.{connected-join, fits-less, joinable-sym}
+use Rattle.rules.specs.laws.Connected.{connected-join, fits-less}
 use Rattle.rules.specs.laws.Rows.{size-count}
 use Rattle.rules.specs.laws.Handed.{JoinablePair, among, Complete}
 use Rattle.rules.specs.laws.Turns.{Entries}
-use Rattle.rules.specs.laws.Complete.{InGroup, swap, From, queues, hands-once, sized-of, entries-left, map-append, groups-from, groups-complete, Earlier, groups-earlier}
+use Rattle.rules.specs.laws.Complete.{InGroup, swap, joinable-swap, From, queues, hands-once, sized-of, entries-left, map-append, groups-from, groups-complete, Earlier, groups-earlier}
 use Rattle.rules.specs.laws.Ways.{sides-are}
 
 -- the sizes of a joinable pair, the smaller first
@@ -104,6 +104,16 @@ module _ (q : Query) (crew : Crew) (workers : 0 < crew .workers) (n : ℕ) (grou
       let s : Splits (union p) (p .driving) (p .inner) = record { apart = d .joinable .apart; whole = refl } in
       omega (arith, serves .builds (size (p .driving)) (size (p .inner)) (r .0), r .1, splits-size s)
 
+  -- WHAT HAS ALL PAIRS OF THE GROUPS BEFORE k has all pairs of each set of at most k tables
+  pub early-total : (P : Pair → Type 0) (k : ℕ) → ((j : ℕ) → 1 ≤ j → j < k → (p : Pair) → JoinablePair (q .graph) p → InGroup (groups j) p → P p ⊎ P (swap p))
+      → (S : ℕ) → size S ≤ k → (p : Pair) → JoinablePair (q .graph) p → Inner q (p .inner) → union p ≡ S → P p ⊎ P (swap p)
+  early-total P k all S l p d f w =
+      let s = sizes-of q p d f in
+      let j = serves .home (s .driving) (s .inner) in
+      let o = serves .complete (s .driving) (s .inner) (s .asked) .0 in
+      let b : j < k = omega (arith, serves .builds (s .driving) (s .inner) (s .asked), s .makes, ap size w) in
+      ⊎-elim (λ i. all j o b p d i) (λ i. ⊎-elim (λ y. inr y) (λ y. inl y) (all j o b (swap p) (joinable-swap d) i)) (inside p s)
+
   -- FROM THE TURNS IN A ROW: all pairs of each set, whatever the workers, the scheme, the turns and the schedule
   pub plan-complete : (ts : List ℕ) (h : List (Hand Numbered)) → Entries (crew .workers) ts → Groups (crew .workers) (queues (q .graph) crew workers groups) 1 n ts h → (S : ℕ) → Complete q (among (map pairOf h)) S
   plan-complete ts h t z S = groups-complete (q .graph) crew workers groups q refl 1 n ts h t z S (λ p d f w.
@@ -124,13 +134,10 @@ module _ (q : Query) (crew : Crew) (workers : 0 < crew .workers) (n : ℕ) (grou
 
     -- AT EACH TURN: of both parts that it reads all pairs were handed by the turns before
     pub read-final : (a b : List (Hand Numbered)) (x : Hand Numbered) → h ≡ a ++ x ∷ b → (S : ℕ) → (S ≡ pairOf x .driving) ⊎ (S ≡ pairOf x .inner) → Complete q (among (map pairOf a)) S
-    read-final a b x e S part = record { sound = sound; total = total }
+    read-final a b x e S part = record { sound = sound; total = early-total (among (map pairOf a)) (r .group) (r .all) S small }
       where
         r : Earlier (q .graph) crew workers groups 1 n (map pairOf a) (pairOf x)
         r = groups-earlier (q .graph) crew workers groups 1 n ts h t z a b x e
-
-        joins : JoinablePair (q .graph) (pairOf x)
-        joins = plan-joinable (pairOf x) (rw e (Memᴰ·map pairOf (Memᴰ·append-right a (List·Memᴰ·head refl))))
 
         small : size S ≤ r .group
         small =
@@ -139,17 +146,6 @@ module _ (q : Query) (crew : Crew) (workers : 0 < crew .workers) (n : ℕ) (grou
 
         sound : (p : Pair) → List·Memᴰ p (map pairOf a) → union p ≡ S → JoinablePair (q .graph) p
         sound p i w = plan-joinable p (rw (e, map-append) (Memᴰ·append-left (map pairOf (x ∷ b)) i))
-
-        back : (p : Pair) → JoinablePair (q .graph) p → JoinablePair (q .graph) (swap p)
-        back p d = record { driving-conn = d .inner-conn; inner-conn = d .driving-conn; joinable = joinable-sym (d .joinable) }
-
-        total : (p : Pair) → JoinablePair (q .graph) p → Inner q (p .inner) → union p ≡ S → List·Memᴰ p (map pairOf a) ⊎ List·Memᴰ (swap p) (map pairOf a)
-        total p d f w =
-            let s = sizes-of q p d f in
-            let k = serves .home (s .driving) (s .inner) in
-            let o = serves .complete (s .driving) (s .inner) (s .asked) .0 in
-            let l : k < r .group = omega (arith, serves .builds (s .driving) (s .inner) (s .asked), s .makes, ap size w, small) in
-            ⊎-elim (λ i. r .all k o l p d i) (λ i. ⊎-elim (λ y. inr y) (λ y. inl y) (r .all k o l (swap p) (back p d) i)) (inside p s)
 
   -- NOTHING IS HANDED TWICE, in one group or in two
   pub plan-once : (k c : ℕ) → 1 ≤ k → k + c ≤ suc n → (ts : List ℕ) (h : List (Hand Numbered)) → Entries (crew .workers) ts → Groups (crew .workers) (queues (q .graph) crew workers groups) k c ts h → Once (map (λ (x : Hand Numbered). x .candidate) h)

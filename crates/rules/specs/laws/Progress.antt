@@ -15,7 +15,7 @@ use Rattle.rules.specs.Log.{setsOf}
 use Rattle.rules.specs.Sets.{size, single}
 use Rattle.rules.specs.Query.{Query, IsTable, tableCount, at}
 use Rattle.rules.specs.Connected.{Connected}
-use Rattle.rules.specs.Trees.{Joinable, Inner}
+use Rattle.rules.specs.Trees.{Joinable}
 use Rattle.rules.specs.Offers.{Pair, union, Way, along, back, Choice, joinCost, Offers}
 use Rattle.rules.specs.Candidates.{Candidate, candidates, joinable}
 use Rattle.rules.specs.Shares.{Numbered, numbered, met, owns}
@@ -33,7 +33,7 @@ use Rattle.rules.specs.laws.Memo.{one-least}
 use Rattle.rules.specs.laws.Reference.{better, better-first, better-one, kept}
 use Rattle.rules.specs.laws.Candidates.{Has, numbered-in, numbered-of}
 use Rattle.rules.specs.laws.Complete.{mine, mine-one, met-one, true-joinable, met-joinable, met-sized, InGroup, swap, pair-met}
-use Rattle.rules.specs.laws.Final.{sizes-of, inside, reads-small, results-large}
+use Rattle.rules.specs.laws.Final.{early-total, reads-small, results-large}
 use Rattle.rules.specs.laws.Outcome.{bestAt, best-least}
 
 -- a row that no pair was handed for
@@ -242,20 +242,11 @@ module _ (q : Query) (crew : Crew) (groups : Schedule) where
 
     -- of a set of at most k tables all pairs stand in the groups before k
     before-complete : (k S : ℕ) → size S ≤ k → Complete q (Before k) S
-    before-complete k S l = record { sound = λ p b w. before-joinable k p b; total = total }
+    before-complete k S l = record { sound = λ p b w. before-joinable k p b; total = early-total q crew workers n groups serves (Before k) k one-way S l }
       where
         one-way : (j : ℕ) → 1 ≤ j → j < k → (p : Pair) → JoinablePair (q .graph) p → InGroup (groups j) p → Before k p ⊎ Before k (swap p)
         one-way j a b p d i =
             ⊎-elim (λ h. inl (before-has k j (p .driving) (p .inner) a b (d .joinable) h)) (λ h. inr (before-has k j (p .inner) (p .driving) a b (joinable-sym (d .joinable)) h)) (pair-met (q .graph) (groups j) p d i)
-
-        total : (p : Pair) → JoinablePair (q .graph) p → Inner q (p .inner) → union p ≡ S → Before k p ⊎ Before k (swap p)
-        total p d f w =
-            let s = sizes-of q p d f in
-            let j = serves .home (s .driving) (s .inner) in
-            let a = serves .complete (s .driving) (s .inner) (s .asked) .0 in
-            let b : j < k = omega (arith, serves .builds (s .driving) (s .inner) (s .asked), s .makes, ap size w) in
-            let back : JoinablePair (q .graph) (swap p) = record { driving-conn = d .inner-conn; inner-conn = d .driving-conn; joinable = joinable-sym (d .joinable) } in
-            ⊎-elim (λ i. one-way j a b p d i) (λ i. ⊎-elim (λ y. inr y) (λ y. inl y) (one-way j a b (swap p) back i)) (inside q crew workers n groups serves p s)
 
     -- CLOSING: no worker has a pair left
     pub standing-closed : (k : ℕ) → 1 ≤ k → (place : ℕ → ℕ) (row : ℕ → Choice)
