@@ -1,4 +1,6 @@
 // The C boundary.
+#![tactic(auto)]
+
 ghost use Rattle.rules.specs.Text.{Written};
 
 use text::plan_bytes;

@@ -2,6 +2,8 @@
 // its skip vectors, the log, and what stands in the spare part of all that was lent; then both sides of every limit of checks 1 to 12
 // with number and place.
 // The inputs stand in `stdin`. What it must print was worked out from document 01 apart from this code, and stands in `stdout`.
+#![tactic(auto)]
+
 ghost use Rattle.std.specs.Prelude.{◌+◌, ◌<◌, ◌≤◌, length};
 
 use planner::{Answer, plan};

@@ -1,4 +1,6 @@
 // The crew between turns: its table of workers, whose turn it is, the log, and how many pairs each worker was handed.
+#![tactic(auto)]
+
 ghost use Rattle.std.specs.Prelude.{◌≡◌};
 ghost use Rattle.crew.specs.Workers.{nobody, counts_of};
 

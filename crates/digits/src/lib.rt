@@ -1,4 +1,6 @@
 // Numbers and sets in decimal.
+#![tactic(auto)]
+
 ghost use Rattle.std.specs.Prelude.{◌≤◌, ◌<◌, ◌+◌, ◌∷◌, [], length, ltb};
 ghost use Rattle.rules.specs.Writing.{digits_of, set_text};
 ghost use Rattle.digits.specs.Put.{Put};

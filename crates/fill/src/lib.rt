@@ -1,4 +1,6 @@
 // Writing the rows of all sizes in one walk: each size has a place in the columns, and a row is written at its size's.
+#![tactic(auto)]
+
 ghost use Rattle.std.specs.Prelude.{◌≡◌, true, cond, map, ◌+◌, ◌≤◌, ◌<◌, length, set};
 ghost use Rattle.std.proofs.lemmas.List.Edits.{sets};
 ghost use Rattle.rules.specs.Query.{Graph, graph_of};

@@ -16,7 +16,7 @@ use Rattle.rules.specs.laws.Bools.{true-or-false, not-both, yes_true}
 use Rattle.rules.specs.laws.Sets.{bit, bit_le, holds-bit, holds-none, holds-pos, holds-lt, holds-sum, holds-apart, holds-single-only, disjoint-of-bits, union-of}
 use Rattle.rules.specs.laws.Connected.{Within}
 use Rattle.rules.specs.laws.Decide.{connected?}
-use Rattle.rules.specs.laws.Rows.{combos-only}
+use Rattle.rules.proofs.laws.Rows.{combos-only}
 use Rattle.graph.specs.Walk.{walk, onward, Apart}
 
 -- ---- the chosen tables lie below the next one

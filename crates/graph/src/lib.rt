@@ -1,2 +1,4 @@
 // The graph as neighbour sets, and what they say of chosen tables.
+#![tactic(auto)]
+
 pub mod near;

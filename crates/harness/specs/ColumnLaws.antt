@@ -6,7 +6,7 @@ use Rattle.rules.specs.Lists.{over}
 use Rattle.rules.specs.declared.Verdict.{Verdict}
 use Rattle.rules.specs.Refusals.{Memory, Input, first_of, checks}
 use Rattle.rules.specs.Answers.{Outcome}
-use Rattle.rules.specs.laws.Answers.{planned-unique}
+use Rattle.rules.proofs.laws.Answers.{planned-unique}
 use Rattle.memo.specs.declared.layout.Laid.{Laid}
 use Rattle.memo.specs.Layout.{Lent, lent_of, LaidOut}
 use Rattle.memo.specs.LayoutLaws.{laid-unique}

@@ -1,4 +1,6 @@
 // The library's entry from C, and laying out alone; for tests and benchmarks only, not shipped.
+#![tactic(auto)]
+
 ghost use Rattle.std.specs.Prelude.{◌≡◌, ◌≤◌, length};
 ghost use Rattle.rules.specs.Lists.{over};
 ghost use Rattle.query.specs.Lists.{query_of};

@@ -1,2 +1,4 @@
 // Laying out the memo, all of it at once.
+#![tactic(auto)]
+
 pub mod layout;

@@ -1,4 +1,6 @@
 // Opening a group: every worker at its first joinable pair.
+#![tactic(auto)]
+
 ghost use Rattle.std.specs.Prelude.{◌≤◌};
 ghost use Rattle.rules.specs.Limits.{max_workers};
 ghost use Rattle.rules.specs.Query.{graph_of};

@@ -6,8 +6,8 @@ use Rattle.rules.specs.declared.Group.{Group}
 use Rattle.rules.specs.Schedule.{inner_at}
 use Rattle.rules.specs.Rows.{memo}
 use Rattle.rules.specs.laws.Bools.{true-or-false, not-both}
-use Rattle.rules.specs.laws.Lists.{Once, at_in}
-use Rattle.rules.specs.laws.Rows.{memo-once}
+use Rattle.rules.proofs.laws.Lists.{Once, at_in}
+use Rattle.rules.proofs.laws.Rows.{memo-once}
 use Rattle.shares.specs.declared.places.Place.{Place}
 use Rattle.shares.specs.declared.Share.{Share}
 use Rattle.pairs.specs.Places.{start_of, candidate_at, met_numbered, own_at, At, NextFrom}

@@ -1,4 +1,6 @@
 // What each table brings to an estimate, in one array: the cell of t and t has the rows of t, that of t and u the divisor of their edge.
+#![tactic(auto)]
+
 ghost use Rattle.std.specs.Prelude.{◌≡◌, ◌+◌, ◌-◌, ◌*◌, ◌≤◌, min, max, length, get_or};
 ghost use Rattle.rules.specs.Limits.{max_tables, max_rows, max_estimate};
 ghost use Rattle.rules.specs.Query.{graph_of, edge_count};

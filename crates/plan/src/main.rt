@@ -1,4 +1,6 @@
 // The program: the text on standard input, its answer on standard output.
+#![tactic(auto)]
+
 use text::plan_bytes;
 
 fn main() {

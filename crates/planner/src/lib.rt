@@ -1,4 +1,6 @@
 // The library's entry: checks, laying out, the turns in a row, the answer.
+#![tactic(auto)]
+
 ghost use Rattle.std.specs.Prelude.{◌≡◌};
 ghost use Rattle.rules.specs.Kinds.{new_crew};
 ghost use Rattle.rules.specs.declared.Crew.{Crew};

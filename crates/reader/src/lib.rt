@@ -1,2 +1,4 @@
 // The text's reader: bytes to columns of records, or the first refusal of 21 to 25.
+#![tactic(auto)]
+
 pub mod reading;

@@ -1,4 +1,6 @@
 // Refusals 1 to 12 of document 01, in its order.
+#![tactic(auto)]
+
 ghost use Rattle.std.specs.Prelude.{◌≡◌, [], ◌∷◌, ◌<◌, length};
 ghost use Rattle.rules.specs.Kinds.{new_table, new_method};
 ghost use Rattle.rules.specs.Query.{graph_of};

@@ -1,5 +1,7 @@
 // Document 01's query turn by turn, under the four schemes with 1, 2, 3 and 8 workers: prints places, pairs and standing costs.
 // What it must print was worked out from document 01 apart from this code, and stands in `stdout`.
+#![tactic(auto)]
+
 ghost use Rattle.std.specs.Prelude.{ℕ, ◌+◌, ◌-◌, ◌≤◌, ◌<◌, length};
 ghost use Rattle.rules.specs.Limits.{max_workers};
 ghost use Rattle.rules.specs.declared.Shape.TheVariants.{Bushy};

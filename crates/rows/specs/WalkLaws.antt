@@ -11,10 +11,10 @@ use Rattle.rules.specs.Sets.{number, single, size}
 use Rattle.rules.specs.Query.{Graph, table_count}
 use Rattle.rules.specs.Rows.{combos, sequences, rows_of, memo}
 use Rattle.rules.specs.Skips.{skips}
-use Rattle.rules.specs.laws.Lists.{length-map, row_last, sum, sum-append}
+use Rattle.rules.proofs.laws.Lists.{length-map, row_last, sum, sum-append}
 use Rattle.rules.specs.laws.Decide.{connected?}
-use Rattle.rules.specs.laws.Rows.{rows-only}
-use Rattle.rules.specs.laws.Skips.{cells-sizes}
+use Rattle.rules.proofs.laws.Rows.{rows-only}
+use Rattle.rules.proofs.laws.Skips.{cells-sizes}
 use Rattle.graph.specs.Walk.{walk}
 use Rattle.rows.specs.Sizes.{up_to}
 

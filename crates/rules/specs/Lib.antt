@@ -1,4 +1,4 @@
--- Document 01 in mathematics, one module for each idea, in the order of its sections; `laws` proves what follows.
+-- Document 01 in mathematics, one module for each idea, in the order of its sections; `proofs/laws` proves what follows.
 pub mod Limits
 pub mod Kinds
 pub mod Lists
@@ -23,5 +23,3 @@ pub mod Reading
 pub mod Writing
 pub mod Text
 pub mod laws
-pub mod Cases
-pub mod Wrong

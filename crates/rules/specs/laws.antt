@@ -1,32 +1,5 @@
--- What follows from the definitions. A reader need believe nothing here: it is proved.
-pub mod Kinds
+-- What the definitions themselves rest on: sets, and that a test tells whether a set is connected. What follows from the definitions stands in proofs/laws.
 pub mod Bools
-pub mod Lists
 pub mod Sets
-pub mod Tables
-pub mod Copies
 pub mod Connected
 pub mod Decide
-pub mod Rows
-pub mod Choice
-pub mod Bellman
-pub mod Ways
-pub mod Handed
-pub mod Memo
-pub mod Picked
-pub mod Reference
-pub mod Estimate
-pub mod Shares
-pub mod Candidates
-pub mod Skips
-pub mod Turns
-pub mod Hands
-pub mod Complete
-pub mod Schedule
-pub mod Final
-pub mod Refusals
-pub mod Outcome
-pub mod Progress
-pub mod Answers
-pub mod Writing
-pub mod Text

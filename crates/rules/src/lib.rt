@@ -1,5 +1,7 @@
 // The types of document 01, each with its limits, and constructors that refuse over them.
 // What every name of a contract means stands in specs/.
+#![tactic(auto)]
+
 ghost use Rattle.std.specs.Prelude.{◌≡◌, ◌≤◌};
 ghost use Rattle.rules.specs.Limits.{max_tables, in_range, tables_fit, methods_fit};
 ghost use Rattle.rules.specs.declared.Shape.TheVariants.{Bushy};

@@ -1,2 +1,4 @@
 // The turns in a row, group after group.
+#![tactic(auto)]
+
 pub mod search;

@@ -1,4 +1,6 @@
 // Sets of tables as numbers, where table t is digit t - 1: each function is a definition of rules.
+#![tactic(auto)]
+
 ghost use Rattle.std.specs.Prelude.{◌≡◌, not, ◌+◌, ◌^◌, ◌<◌, ◌≤◌};
 ghost use Rattle.rules.specs.Sets.{has, Disjoint, disjoint, size, single, tables, rank, Lowest};
 ghost use Rattle.rules.specs.Rows.{before};

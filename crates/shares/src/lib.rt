@@ -1,4 +1,6 @@
 // Shares of a group's candidates, "before any test": which inner rows of a driving row a worker has.
+#![tactic(auto)]
+
 ghost use Rattle.std.specs.Prelude.{◌≡◌, ◌+◌, ◌-◌, ◌≤◌, ◌<◌};
 ghost use Rattle.rules.specs.Limits.{max_workers};
 ghost use Rattle.rules.specs.Shares.{cut, in_cut};

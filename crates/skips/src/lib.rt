@@ -1,4 +1,6 @@
 // The skip vectors of one size, built backwards from the last row: a row's value is the next row's number or the next row's value.
+#![tactic(auto)]
+
 ghost use Rattle.std.specs.Prelude.{◌≡◌, map, ◌+◌, ◌-◌, ◌*◌, ◌^◌, ◌<◌, ◌≤◌, length};
 ghost use Rattle.std.proofs.Math.Seq.{slice};
 ghost use Rattle.rules.specs.Sets.{size, tables};

@@ -1,4 +1,6 @@
 // Where the rows and the skip cells of each size begin.
+#![tactic(auto)]
+
 ghost use Rattle.std.specs.Prelude.{◌≡◌, ◌+◌, ◌≤◌, length};
 ghost use Rattle.rules.specs.Query.{graph_of};
 ghost use Rattle.rules.specs.Checked.{GoodGraph};

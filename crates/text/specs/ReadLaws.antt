@@ -10,8 +10,8 @@ use Rattle.rules.specs.Refusals.{Input, verdict}
 use Rattle.rules.specs.Reading.{Read, Reading, reading}
 use Rattle.rules.specs.Writing.{refusal_line}
 use Rattle.rules.specs.Text.{text_input, input_for, input_of, text_verdict, Lined, Answers, Written}
-use Rattle.rules.specs.laws.Writing.{refusal-room}
-use Rattle.rules.specs.laws.Text.{good_none, unread-verdict, unplanned-verdict}
+use Rattle.rules.proofs.laws.Writing.{refusal-room}
+use Rattle.rules.proofs.laws.Text.{good_none, unread-verdict, unplanned-verdict}
 use Rattle.query.specs.Lists.{query_of}
 use Rattle.memo.specs.LayoutLaws.{front}
 use Rattle.fields.specs.declared.kinds.Progress.{Progress}

@@ -1,4 +1,6 @@
 // The text entry's work: a text's bytes to the bytes of its answer.
+#![tactic(auto)]
+
 ghost use Rattle.std.specs.Prelude.{◌≡◌, ◌≤◌, length};
 ghost use Rattle.rules.specs.Limits.{answer_room};
 ghost use Rattle.rules.specs.Lists.{over};

@@ -1,5 +1,7 @@
 // Generated queries, planned under several crews, and held cell by cell to an enumeration of all trees that shares no code with the
 // planner; and queries planned under many crews, which must all leave the same. Prints counts only.
+#![tactic(auto)]
+
 mod crews;
 mod enumerate;
 mod flags;

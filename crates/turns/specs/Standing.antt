@@ -12,10 +12,10 @@ use Rattle.rules.specs.Rows.{memo}
 use Rattle.rules.specs.Shares.{Numbered, met}
 use Rattle.rules.specs.Turns.{Hand}
 use Rattle.rules.specs.Checked.{GoodGraph, Sound}
-use Rattle.rules.specs.laws.Choice.{Best}
-use Rattle.rules.specs.laws.Reference.{kept}
-use Rattle.rules.specs.laws.Complete.{mine}
-use Rattle.rules.specs.laws.Progress as progress
+use Rattle.rules.proofs.laws.Choice.{Best}
+use Rattle.rules.proofs.laws.Reference.{kept}
+use Rattle.rules.proofs.laws.Complete.{mine}
+use Rattle.rules.proofs.laws.Progress as progress
 use Rattle.turns.specs.Index.{index_of}
 use Rattle.crew.specs.declared.Worker.{Worker}
 use Rattle.crew.specs.declared.Handed as code

@@ -20,16 +20,16 @@ use Rattle.rules.specs.Candidates.{Candidate, candidates, joinable}
 use Rattle.rules.specs.Shares.{Numbered, numbered, met}
 use Rattle.rules.specs.Log.{sets_of, pair_of}
 use Rattle.rules.specs.laws.Bools.{true-or-false, not-both}
-use Rattle.rules.specs.laws.Lists.{at_in}
-use Rattle.rules.specs.laws.Choice.{Best}
-use Rattle.rules.specs.laws.Reference.{kept}
-use Rattle.rules.specs.laws.Candidates.{numbered_of, numbered-length}
-use Rattle.rules.specs.laws.Handed.{With}
+use Rattle.rules.proofs.laws.Lists.{at_in}
+use Rattle.rules.proofs.laws.Choice.{Best}
+use Rattle.rules.proofs.laws.Reference.{kept}
+use Rattle.rules.proofs.laws.Candidates.{numbered_of, numbered-length}
+use Rattle.rules.proofs.laws.Handed.{With}
 use Rattle.rules.specs.laws.Connected.{connected-join}
-use Rattle.rules.specs.laws.Rows.{memo-once}
-use Rattle.rules.specs.laws.Complete.{mine, met-sized}
-use Rattle.rules.specs.laws.Final.{group-ways, results-large}
-use Rattle.rules.specs.laws.Progress as progress
+use Rattle.rules.proofs.laws.Rows.{memo-once}
+use Rattle.rules.proofs.laws.Complete.{mine, met-sized}
+use Rattle.rules.proofs.laws.Final.{group-ways, results-large}
+use Rattle.rules.proofs.laws.Progress as progress
 use Rattle.crew.specs.declared.Worker.{Worker}
 use Rattle.shares.specs.declared.places.Place.{Place}
 use Rattle.crew.specs.declared.Handed as code
@@ -39,7 +39,7 @@ use Rattle.pairs.specs.PlaceLaws.{start-mono, start-memo, met-few, group-fits}
 use Rattle.pairs.specs.GroundLaws.{at-number}
 use Rattle.turns.specs.Index.{index_of, index-cases, index_at}
 use Rattle.opening.specs.Opening.{Opened}
-use Rattle.rules.specs.laws.Schedule.{first-driving}
+use Rattle.rules.proofs.laws.Schedule.{first-driving}
 use Rattle.turns.specs.QueueLaws.{waits-inside, turn-other, other_place, own-mine, same-workers}
 use Rattle.turns.specs.Standing.{Columns, choice_in, stored, top_of, result_at, Reach, Ready, InPlace, pair_at, Handing, TurnTaken, row_in, Final, places_of, Standing, hand_at, Work}
 use Rattle.crew.specs.Workers.{worker_at}

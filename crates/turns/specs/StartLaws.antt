@@ -10,19 +10,19 @@ use Rattle.rules.specs.declared.Group.{Group}
 use Rattle.rules.specs.Schedule.{Schedule}
 use Rattle.rules.specs.declared.Crew.{Crew}
 use Rattle.rules.specs.Connected.{Connected}
-use Rattle.rules.specs.laws.Progress as progress
-use Rattle.rules.specs.laws.Rows.{rows_all, memo-all, memo-only, memo-once}
+use Rattle.rules.proofs.laws.Progress as progress
+use Rattle.rules.proofs.laws.Rows.{rows_all, memo-all, memo-only, memo-once}
 use Rattle.pairs.specs.UniqueLaws.{once-at}
 use Rattle.rules.specs.Estimate.{estimate}
 use Rattle.rules.specs.Rows.{rows_of, memo}
 use Rattle.rules.specs.Skips.{skips}
 use Rattle.rules.specs.Checked.{GoodGraph, Sound}
 use Rattle.rules.specs.laws.Bools.{true-yes}
-use Rattle.rules.specs.laws.Lists.{length-map, over-at, at_in, in-at}
+use Rattle.rules.proofs.laws.Lists.{length-map, over-at, at_in, in-at}
 use Rattle.rules.specs.laws.Sets.{size-pow, size-pos}
 use Rattle.rules.specs.laws.Connected.{connected-single}
 use Rattle.rules.specs.laws.Decide.{connected?}
-use Rattle.rules.specs.laws.Estimate.{least-below}
+use Rattle.rules.proofs.laws.Estimate.{least-below}
 use Rattle.graph.specs.Walk.{walk}
 use Rattle.rows.specs.Sizes.{up_to}
 use Rattle.rows.specs.WalkLaws.{walk-hit, walk-few, walk_step, rows_start, up_to-none}

@@ -15,8 +15,8 @@ use Rattle.rules.specs.Answers.{Row}
 use Rattle.rules.specs.Trees.{Tree, scan, join, tables_of, step_of, cost_of, Picked}
 use Rattle.rules.specs.Writing.{join_line, join_lines}
 use Rattle.rules.specs.laws.Sets.{size-pow, size-sum, size-pos, holds-single-only}
-use Rattle.rules.specs.laws.Bellman.{tables_of-pos, least-unique, pick-unique}
-use Rattle.rules.specs.laws.Picked.{picked-parts, picked-in, picked-below, picked-least}
+use Rattle.rules.proofs.laws.Bellman.{tables_of-pos, least-unique, pick-unique}
+use Rattle.rules.proofs.laws.Picked.{picked-parts, picked-in, picked-below, picked-least}
 use Rattle.digits.specs.Put.{Put}
 use Rattle.writer.specs.Plans.{Rooted, Kept, ToPut}
 use Rattle.digits.specs.PutLaws.{put-none, put_then, put_as, Room, room_of, room-first, room-then}

@@ -5,7 +5,7 @@ use native.Mathlib.Omega.{arith}
 use lib.ListN.{length, get_or}
 use Rattle.rules.specs.Sets.{size}
 use Rattle.rules.specs.Query.{graph_of}
-use Rattle.rules.specs.laws.Lists as lists
+use Rattle.rules.proofs.laws.Lists as lists
 use Rattle.rows.specs.Sizes.{up_to}
 use Rattle.rows.specs.WalkLaws.{cells-none, cells-next, cells-end, cells_fit}
 use Rattle.rows.proofs.tally.all_cells.Statement.{statement}
