@@ -15,7 +15,7 @@ pub mod table;
 pub mod whose;
 
 // A worker of the table: its share of the group, its place, the memo row of its last result, how many pairs it was handed.
-#[derive(Drop)]
+#[derive(Clone, Copy)]
 pub struct Worker {
     pub share: Share,
     pub place: Place,
@@ -24,7 +24,7 @@ pub struct Worker {
 }
 
 // The pair that a turn handed and the cost in its result's row after the turn, or none and zeros.
-#[derive(Drop)]
+#[derive(Clone, Copy)]
 pub struct Handed {
     pub found: bool,
     pub driving: u64,

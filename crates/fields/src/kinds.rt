@@ -12,7 +12,7 @@ use rules::forms::{Form, Kind, Letter, Number};
 use rules::{Edge, Method, Table};
 
 // How many records of each kind stand in the lists, the stage of the latest line, and the crew once its line is read.
-#[derive(Drop)]
+#[derive(Clone, Copy)]
 pub struct Progress {
     pub tables: usize,
     pub methods: usize,
@@ -23,14 +23,14 @@ pub struct Progress {
 }
 
 // The numbers of a line, in the first cells, where all of them are good.
-#[derive(Drop)]
+#[derive(Clone, Copy)]
 pub struct Values {
     pub numeric: bool,
     pub cells: [u64; 4],
 }
 
 // A line's refusal, 0 for none, and then its kind and numbers.
-#[derive(Drop)]
+#[derive(Clone, Copy)]
 pub struct Judged {
     pub number: u64,
     pub kind: Kind,

@@ -13,7 +13,7 @@ use rows::tally::{all_cells, all_rows};
 use skips::fill_vectors;
 
 // What laying out answers: 0 or the refusal's number, and how many rows and cells there are, 0 where refused.
-#[derive(Drop)]
+#[derive(Clone, Copy)]
 pub struct Laid {
     pub refusal: u64,
     pub rows: u64,

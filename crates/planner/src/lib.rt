@@ -17,7 +17,7 @@ use runs::search::search;
 
 // "The answer gives best cost, number of memo rows, of skip cells, of joinable pairs, and eight per-worker pair counts"; a refusal
 // gives number and place, and zeros.
-#[derive(Drop)]
+#[derive(Clone, Copy)]
 pub struct Answer {
     pub refusal: u64,
     pub place: u64,

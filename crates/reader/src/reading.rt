@@ -16,7 +16,7 @@ const NEWLINE: u8 = 10;
 const MAX_BYTES: usize = 16_384;
 
 // The verdict on a text, and how far its lines were good.
-#[derive(Drop)]
+#[derive(Clone, Copy)]
 pub struct Held {
     pub verdict: Verdict,
     pub progress: Progress,

@@ -7,7 +7,7 @@ ghost use Rattle.rules.proofs.laws.Reference.{sooner};
 ghost use Rattle.results.specs.Prices.{choice_of, packed, lesser, Methods, Estimates, Cheapest, join_by};
 
 // One way to join a pair: its cost, the outer set, the method.
-#[derive(Drop)]
+#[derive(Clone, Copy)]
 pub struct Choice {
     pub cost: u64,
     pub outer: u64,

@@ -28,7 +28,7 @@ use turns::turn::turn;
 const STDOUT: i32 = 1;
 
 // The workers between sizes, and how many entries of the list of turns are used up.
-#[derive(Drop)]
+#[derive(Clone, Copy)]
 struct State {
     workers: [Worker; 8],
     used: usize,

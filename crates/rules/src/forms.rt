@@ -1,7 +1,7 @@
 // What the text of document 01 is made of: kinds of lines, and numbers.
 
 // "T lines first ..; then M, E, and one W."
-#[derive(Drop)]
+#[derive(Clone, Copy)]
 pub enum Kind {
     Table,
     Method,
@@ -10,20 +10,20 @@ pub enum Kind {
 }
 
 // What a letter says of its line: its kind, and how many numbers follow.
-#[derive(Drop)]
+#[derive(Clone, Copy)]
 pub struct Form {
     pub kind: Kind,
     pub numbers: usize,
 }
 
-#[derive(Drop)]
+#[derive(Clone, Copy)]
 pub enum Letter {
     Known(Form),
     Unknown,
 }
 
 // "A number is 1 to 10 digits, no leading zero unless it is 0, at most 1,000,000,000."
-#[derive(Drop)]
+#[derive(Clone, Copy)]
 pub enum Number {
     Value(u64),
     Bad,

@@ -20,13 +20,13 @@ fn in_range(low: u64, high: u64, n: u64) -> bool
     false
 }
 
-#[derive(Drop)]
+#[derive(Clone, Copy)]
 pub struct Table {
     pub rows: u64,
     pub scan: u64,
 }
 
-#[derive(Drop)]
+#[derive(Clone, Copy)]
 pub enum NewTable {
     Good(Table),
     Over,
@@ -61,7 +61,7 @@ impl Table {
     }
 }
 
-#[derive(Drop)]
+#[derive(Clone, Copy)]
 pub struct Edge {
     pub left: u64,
     pub right: u64,
@@ -69,7 +69,7 @@ pub struct Edge {
 }
 
 // What is wrong with an edge, in the order of refusals 6, 7 and 8.
-#[derive(Drop)]
+#[derive(Clone, Copy)]
 pub enum NewEdge {
     Good(Edge),
     Outside,
@@ -107,7 +107,7 @@ impl Edge {
     }
 }
 
-#[derive(Drop)]
+#[derive(Clone, Copy)]
 pub struct Method {
     pub fixed: u64,
     pub outer: u64,
@@ -115,7 +115,7 @@ pub struct Method {
     pub result: u64,
 }
 
-#[derive(Drop)]
+#[derive(Clone, Copy)]
 pub enum NewMethod {
     Good(Method),
     Over,
@@ -160,7 +160,7 @@ impl Method {
 }
 
 // The four ways of sharing candidates among workers.
-#[derive(Drop)]
+#[derive(Clone, Copy)]
 pub enum Scheme {
     CutCandidates,
     CutRows,
@@ -168,7 +168,7 @@ pub enum Scheme {
     DealInner,
 }
 
-#[derive(Drop)]
+#[derive(Clone, Copy)]
 pub enum NewScheme {
     Good(Scheme),
     Unknown,
@@ -200,13 +200,13 @@ impl Scheme {
 }
 
 // The workers of a plan and how they share.
-#[derive(Drop)]
+#[derive(Clone, Copy)]
 pub struct Crew {
     pub workers: u64,
     pub scheme: Scheme,
 }
 
-#[derive(Drop)]
+#[derive(Clone, Copy)]
 pub enum NewCrew {
     Good(Crew),
     Refused,
@@ -232,7 +232,7 @@ impl Crew {
 }
 
 // The shapes of a plan: any, or the inner part of each join is a single table.
-#[derive(Drop)]
+#[derive(Clone, Copy)]
 pub enum Shape {
     Bushy,
     Single,
@@ -241,7 +241,7 @@ pub enum Shape {
 // A group of candidates that are met and shared together: driving sizes 1 to `last`, each with one inner size, which is `base` less the
 // driving size where it falls, and else `base`; and whether both outer choices of its pairs are priced, or only the inner set as the
 // outer one. A group says all that the search needs to know of the order of work and of the shape.
-#[derive(Drop)]
+#[derive(Clone, Copy)]
 pub struct Group {
     pub last: usize,
     pub base: usize,
@@ -266,7 +266,7 @@ impl Group {
 }
 
 // What a join of a plan is: its two parts and how they are joined.
-#[derive(Drop)]
+#[derive(Clone, Copy)]
 pub struct JoinStep {
     pub outer: u64,
     pub inner: u64,
@@ -274,14 +274,14 @@ pub struct JoinStep {
 }
 
 // "A step of a plan is a scan of one table or a join."
-#[derive(Drop)]
+#[derive(Clone, Copy)]
 pub enum Step {
     Scan(u64),
     Join(JoinStep),
 }
 
 // A numbered refusal and its place; number 0 is none.
-#[derive(Drop)]
+#[derive(Clone, Copy)]
 pub struct Verdict {
     pub number: u64,
     pub place: u64,

@@ -18,7 +18,7 @@ use turns::scans::lay_scans;
 use turns::turn::step;
 
 // How many pairs the turns handed, and how many to each worker.
-#[derive(Drop)]
+#[derive(Clone, Copy)]
 pub struct Searched {
     pub pairs: usize,
     pub counts: [u64; 8],

@@ -11,7 +11,7 @@ use rules::{Crew, Scheme};
 pub mod places;
 
 // A worker's share of one group: the scheme, how many workers, which of them, how many candidates, and its cut of them.
-#[derive(Drop)]
+#[derive(Clone, Copy)]
 pub struct Share {
     pub scheme: Scheme,
     pub workers: usize,
@@ -22,7 +22,7 @@ pub struct Share {
 }
 
 // The inner rows that a worker has of a driving row: every `step`-th one from `from`, below `end`.
-#[derive(Drop)]
+#[derive(Clone, Copy)]
 pub struct Span {
     pub from: usize,
     pub end: usize,

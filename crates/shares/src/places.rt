@@ -3,7 +3,7 @@ ghost use Rattle.std.specs.Prelude.{◌≡◌};
 ghost use Rattle.shares.specs.Nowhere.{nowhere};
 
 // Where a worker stands: at its next joinable pair, or, with none left, at the end of the group's candidates.
-#[derive(Drop)]
+#[derive(Clone, Copy)]
 pub struct Place {
     pub left: bool,
     pub size: usize,

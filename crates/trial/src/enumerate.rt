@@ -12,7 +12,7 @@ use std::num::wrapping_sub_u64;
 const ALL_TREES: u64 = 7;
 
 // A join that reaches a cost; its rank is eight times its outer set and its method.
-#[derive(Drop)]
+#[derive(Clone, Copy)]
 pub struct Join {
     pub cost: u64,
     pub rank: u64,

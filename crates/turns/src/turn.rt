@@ -13,14 +13,14 @@ use results::price::price;
 use rules::Group;
 
 // One worker after its turn, and the pair handed.
-#[derive(Drop)]
+#[derive(Clone, Copy)]
 pub struct Stepped {
     pub worker: Worker,
     pub pair: Handed,
 }
 
 // All workers after a turn, and the pair handed.
-#[derive(Drop)]
+#[derive(Clone, Copy)]
 pub struct Turned {
     pub workers: [Worker; 8],
     pub pair: Handed,
