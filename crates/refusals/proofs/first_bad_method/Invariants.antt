@@ -1,8 +1,6 @@
-use mathlib.Core.Path.{◌∙◌}
 use Rattle.rules.specs.Refusals.{bad_method}
-use Rattle.refusals.specs.CheckLaws.{Rest, rest_all, rest-on, rest-here, rest-none, method-number}
+use Rattle.refusals.specs.CheckLaws.{Rest}
 use Prim.Native.Nat.{◌≤◌, ◌-◌}
-use native.Mathlib.Omega.{arith}
 use lib.ListN.{length}
 use Rattle.refusals.proofs.first_bad_method.Given as goal
 
