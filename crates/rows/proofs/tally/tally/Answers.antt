@@ -23,5 +23,5 @@ pub returns : goal.returns
 returns c = let g = graph_of c.args.rows.now c.args.left.now c.args.right.now c.args.divisors.now in
     let n = c.neighbours-near in
     let t = c.tally_from in
-    let long = t.auto.1.1.1.1.1.1.1.0 in
+    let long = t.auto.counts in
     record { counts = tallied-root g zeros (omega (arith, c.requires.few-tables, long)) (zero-cells 17 (length c.args.rows.now)) (t.ensures g (root g n.result c.requires n.ensures)); long = long }
