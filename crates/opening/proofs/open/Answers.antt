@@ -1,11 +1,8 @@
 use mathlib.Core.Path.{◌≡◌, ◌∙◌}
-use Prim.Native.Nat.{◌-◌, ◌≤◌}
 use native.Mathlib.Omega.{arith}
-use lib.ListN.{length}
 use Rattle.rules.specs.Query.{graph_of}
 use Rattle.pairs.specs.PlaceLaws.{met-few}
 use Rattle.pairs.specs.GroundLaws.{countable, count-met}
-use Rattle.opening.specs.Opening.{Opening}
 use Rattle.opening.specs.OpenLaws.{share-is, share-ready, opening-none, opening-more}
 use Rattle.opening.proofs.open.Goals as goal
 
@@ -17,7 +14,7 @@ count_candidates-total-requires c =
 pub loop-w-init : goal.loop-w-init
 loop-w-init c =
     let g = graph_of c.args.rows.now c.args.left.now c.args.right.now c.args.divisors.now in
-    (omega arith, omega (arith, s.well-formed), opening-none g c.args.group c.args.crew _)
+    (omega arith, omega (arith, c.well_formed), opening-none g c.args.group c.args.crew _)
 
 pub share_of-share-requires : goal.share_of-share-requires
 share_of-share-requires c =

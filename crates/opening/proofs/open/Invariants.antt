@@ -1,12 +1,8 @@
-use mathlib.Core.Path.{◌≡◌, ◌∙◌}
+use mathlib.Core.Path.{◌≡◌}
 use Prim.Native.Nat.{◌-◌, ◌≤◌}
-use native.Mathlib.Omega.{arith}
 use lib.ListN.{length}
 use Rattle.rules.specs.Query.{graph_of}
-use Rattle.pairs.specs.PlaceLaws.{met-few}
-use Rattle.pairs.specs.GroundLaws.{countable, count-met}
 use Rattle.opening.specs.Opening.{Opening}
-use Rattle.opening.specs.OpenLaws.{share-is, share-ready, opening-none, opening-more}
 use Rattle.opening.proofs.open.Given as goal
 
 abbrev pub invariant-loop-w : goal.invariant-loop-w
