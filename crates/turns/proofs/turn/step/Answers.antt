@@ -65,7 +65,7 @@ bounds-starts-z c =
     let b = c.requires.board in
     let r = c.requires.ready in
     let left = not-false _ c.if-not-place.false in
-    size_in (sum-known c.args.worker.place.size c.inner_at.ensures (result-known b r left)) b.ground.starts-long
+    size_in (sum-known c.args.worker.place.size c.inner_at.ensures (result-known b r left)) b.footing.starts-long
 
 pub overflow_add-z-2 : goal.overflow_add-z-2
 overflow_add-z-2 c =
@@ -86,7 +86,7 @@ bounds-starts-z-2 c =
     let b = c.requires.board in
     let r = c.requires.ready in
     let left = not-false _ c.if-not-place.false in
-    next-in (sum-known c.args.worker.place.size c.inner_at.ensures (result-known b r left)) b.ground.starts-long
+    next-in (sum-known c.args.worker.place.size c.inner_at.ensures (result-known b r left)) b.footing.starts-long
 
 pub overflow_add-x : goal.overflow_add-x
 overflow_add-x c =
@@ -197,7 +197,7 @@ pub next_pair-next-requires : goal.next_pair-next-requires
 next_pair-next-requires c = let b = c.requires.board in
     let r = c.requires.ready in
     let left = not-false _ c.if-not-place.false in
-    record { good_graph = b.graph; ground = b.ground; share_of = (r.share, b.fit); at = r.waits.there left }
+    record { good_graph = b.graph; footing = b.footing; share_of = (r.share, b.fit); at = r.waits.there left }
 
 pub overflow_add-result : goal.overflow_add-result
 overflow_add-result c =
