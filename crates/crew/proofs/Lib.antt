@@ -1,2 +1,2 @@
--- What the walks of this crate share.
-pub mod Shared
+-- Laws that stand on this crate's definitions.
+pub mod Lowest

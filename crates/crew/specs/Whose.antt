@@ -32,22 +32,6 @@ none_more workers w z e v l = go (ℕ_discrete v w)
     go (yes i) = rw i e
     go (no n) = z v (omega arith)
 
--- a scan stops at a worker with a pair left
-pub lowest-found : (workers : List Worker) (m w : ℕ) → w ≤ m → NoneLeft workers w → (worker_at workers w).place.left ≡ true → LowestLeft workers m w
-lowest-found workers m w l z e = record { inside = l; lower = z; left = λ _. e }
-
--- or behind the last
-pub lowest-none : (workers : List Worker) (m w : ℕ) → w ≤ m → m ≤ w → NoneLeft workers w → LowestLeft workers m w
-lowest-none workers m w l o z = record { inside = l; lower = z; left = λ i. absurd (omega arith) }
-
--- the lowest of n workers is the lowest of the first m, if it is among them
-pub lowest-among : (workers : List Worker) (n m r : ℕ) → m ≤ n → LowestLeft workers n r → r < m → LowestLeft workers m r
-lowest-among workers n m r few z l = record { inside = omega arith; lower = z.lower; left = λ _. z.left (omega arith) }
-
--- else none of them has a pair left
-pub lowest-past : (workers : List Worker) (n m r : ℕ) → LowestLeft workers n r → m ≤ r → LowestLeft workers m m
-lowest-past workers n m r z l = record { inside = omega arith; lower = λ v u. z.lower v (omega arith); left = λ i. absurd (omega arith) }
-
 -- the list has an entry for the turn
 pub whose-listed : (turns : List ℕ) (at low : ℕ) → at < length turns → get_or turns at 0 ≡ whose turns at low
 whose-listed turns at low l = rw (lt-ltb at (length turns) l) refl

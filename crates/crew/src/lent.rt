@@ -1,4 +1,4 @@
-// The workers' table lent as a slice. A reference to structs is proved by a walk (docs/PROVING.md): all others call `table`, by value.
+// The workers' table lent as a slice: all others call `table`, by value.
 ghost use Rattle.std.specs.Prelude.{◌≡◌, ◌<◌, length, set};
 ghost use Rattle.crew.specs.Workers.{worker_at};
 ghost use Rattle.crew.specs.Whose.{LowestLeft};

@@ -14,7 +14,7 @@ pub fn note(
     worker: usize,
     pair: Handed,
 ) -> usize
-    requires driving_len { (length driving.old ≡ length workers.old) × (length inner.old ≡ length workers.old) × (length costs.old ≡ length workers.old) }
+    requires same_lengths { (length driving.old ≡ length workers.old) × (length inner.old ≡ length workers.old) × (length costs.old ≡ length workers.old) }
     requires at_bound { at < 2 ^ 63 }
     ensures count { result ≡ count_if at pair }
     ensures log { log_of workers.new driving.new inner.new costs.new ≡ noted_if (log_of workers.old driving.old inner.old costs.old) at worker pair }

@@ -1,4 +1,4 @@
-// The workers' table by value, lent for one call. These three make the reference, and are walks too; their callers have none.
+// The workers' table by value, lent for one call.
 ghost use Rattle.std.specs.Prelude.{◌≡◌, ◌<◌, set};
 ghost use Rattle.crew.specs.Workers.{worker_at};
 ghost use Rattle.crew.specs.Whose.{LowestLeft};

@@ -1,12 +1,12 @@
 -- A set has one row, a candidate one place, and from a number on a worker one next place.
-use Rattle.std.specs.Prelude.{◌≡◌, refl, ◌⊎◌, true, false, List, [], ◌∷◌, ℕ, zero, suc, ◌+◌, ◌-◌, ◌≤◌, ◌<◌, length, get_or}
+use Rattle.std.specs.Prelude.{◌≡◌, refl, ◌⊎◌, true, false, List, [], ◌∷◌, ℕ, zero, suc, ◌+◌, ◌≤◌, ◌<◌, length, get_or}
 use Rattle.std.proofs.Common.{sym, ap, ◌∙◌, inl, inr, le_antisymm, arith}
 use Rattle.rules.specs.Query.{Graph}
 use Rattle.rules.specs.declared.Group.{Group}
 use Rattle.rules.specs.Schedule.{inner_at}
 use Rattle.rules.specs.Rows.{memo}
 use Rattle.rules.specs.laws.Bools.{true-or-false, not-both}
-use Rattle.rules.proofs.laws.Lists.{Once, at_in}
+use Rattle.rules.specs.laws.Lists.{Once, at_in}
 use Rattle.rules.proofs.laws.Rows.{memo-once}
 use Rattle.shares.specs.declared.places.Place.{Place}
 use Rattle.shares.specs.declared.Share.{Share}

@@ -2,8 +2,8 @@
 ghost use Rattle.std.specs.Prelude.{◌≡◌, ◌+◌, ◌<◌, ◌≤◌, length};
 ghost use Rattle.rules.specs.Limits.{max_fixed, max_coefficient, cost_bound};
 ghost use Rattle.rules.specs.Offers.{sides, Offered};
-ghost use Rattle.rules.proofs.laws.Choice.{Best};
-ghost use Rattle.rules.proofs.laws.Reference.{sooner};
+ghost use Rattle.rules.specs.laws.Choice.{Best};
+ghost use Rattle.rules.specs.laws.Choice.{sooner};
 ghost use Rattle.results.specs.Prices.{choice_of, packed, lesser, Methods, Estimates, Cheapest, join_by};
 
 // One way to join a pair: its cost, the outer set, the method.
@@ -33,7 +33,7 @@ pub fn sooner(a: Choice, b: Choice) -> bool
 
 // One method's price and number in one number.
 fn pack(fixed: u64, outer: u64, inner: u64, res: u64, ex: u64, ey: u64, er: u64, method: u64) -> u64
-    requires fixed_le_max_fixed { (fixed ≤ max_fixed) × (outer ≤ max_coefficient) × (inner ≤ max_coefficient) × (res ≤ max_coefficient) }
+    requires coefficients { (fixed ≤ max_fixed) × (outer ≤ max_coefficient) × (inner ≤ max_coefficient) × (res ≤ max_coefficient) }
     requires estimates { Estimates ex ey er × (method < 8) }
     ensures { result ≡ packed fixed outer inner res ex ey er method }
 {
@@ -104,7 +104,7 @@ pub fn price(
 ) -> Choice
     requires methods { Methods fixed.now outer.now inner.now res.now × Estimates ex ey er }
     requires base_bound { base < cost_bound + cost_bound }
-    requires fact { x ≡ y → ⊥ }
+    requires different { x ≡ y → ⊥ }
     ensures { Best (Offered (sides both (record { driving = x; inner = y })) (length fixed.now) (join_by fixed.now outer.now inner.now res.now x ex ey er base)) (choice_of result) }
 {
     let turned = cheapest(fixed, outer, inner, res, ey, ex, er);

@@ -7,7 +7,7 @@ use Rattle.std.proofs.Math.Decide.{ℕ_discrete}
 use Rattle.rules.specs.declared.Step.{Step}
 use Rattle.rules.specs.declared.Step.TheVariants.{Scan, Join}
 use Rattle.rules.specs.declared.JoinStep.{JoinStep}
-use Rattle.rules.specs.Sets.{size, Lowest, holds}
+use Rattle.rules.specs.Sets.{size, Lowest}
 use Rattle.rules.specs.Query.{Query, table_count}
 use Rattle.rules.specs.Estimate.{estimate}
 use Rattle.rules.specs.Rows.{memo}

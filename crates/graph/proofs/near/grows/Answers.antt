@@ -1,0 +1,28 @@
+use native.Mathlib.Omega.{arith}
+use borrow.Author.Tests.{not-true, not-false}
+use Rattle.rules.specs.laws.Connected.{within_same}
+use Rattle.graph.specs.ApartLaws.{overlap-some}
+use Rattle.graph.specs.NearLaws.{overlap-none}
+use Rattle.graph.specs.NodeLaws.{grows-first, grows-never, grows-linked, grows-asked}
+use Rattle.graph.proofs.near.grows.Goals as goal
+
+pub returns-then-chosen-eq0 : goal.returns-then-chosen-eq0
+returns-then-chosen-eq0 c =
+    grows-first c.args.near.now c.args.chosen c.args.around c.args.joined c.args.bit c.if-chosen-eq0.true
+
+pub returns-then-not-overlap : goal.returns-then-not-overlap
+returns-then-not-overlap c =
+    let overlap' = c.overlap in
+    grows-never c.args.near.now c.args.chosen c.args.around c.args.joined c.args.bit c.if-chosen-eq0.false (overlap-none c.args.around c.args.bit overlap'.result overlap'.ensures (not-true overlap'.result c.if-not-overlap.true-raw))
+
+pub returns-then-joined : goal.returns-then-joined
+returns-then-joined c =
+    let overlap' = c.overlap in
+    grows-linked c.args.near.now c.args.chosen c.args.around c.args.joined c.args.bit (overlap-some c.args.around c.args.bit overlap'.result overlap'.ensures (not-false overlap'.result c.if-not-overlap.false-raw)) c.if-joined.true
+
+pub joins-requires : goal.joins-requires
+joins-requires c = (omega arith, omega arith, within_same _)
+
+pub returns : goal.returns
+returns c =
+    grows-asked c.args.near.now c.args.chosen c.args.around c.args.joined c.args.bit c.joins.result c.joins.ensures
