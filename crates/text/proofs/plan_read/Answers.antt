@@ -12,7 +12,7 @@ input s =
     s.args.workers s.args.scheme
 
 pub put_answer-requires : goal.put_answer-requires
-put_answer-requires c = record { answer_room_in_bounds = c.requires; answered = (input (goal.at.put_answer-requires c).Start, record { tables = refl; blank = refl; skips = _; log_workers = _; log_driving = _; log_inner = _; log_costs = _; planned = c.plan-answer.ensures }) }
+put_answer-requires c = record { room = c.requires; answered = (input (goal.at.put_answer-requires c).Start, record { tables = refl; blank = refl; skips = _; log_workers = _; log_driving = _; log_inner = _; log_costs = _; planned = c.plan-answer.ensures }) }
 
 pub returns : goal.returns
 returns c =

@@ -5,7 +5,7 @@ use Rattle.text.proofs.put_answer.Goals as goal
 
 pub put_refusal-requires : goal.put_refusal-requires
 put_refusal-requires c =
-    refusal-fits _ _ (omega arith) (omega arith) c.requires.answer_room_in_bounds
+    refusal-fits _ _ (omega arith) (omega arith) c.requires.room
 
 pub shape_of-out-then-answer-ne0 : goal.shape_of-out-then-answer-ne0
 shape_of-out-then-answer-ne0 c = put-length c.put_refusal.ensures
@@ -16,7 +16,7 @@ returns-then-answer-ne0 c i z =
 
 pub put_plan-joins-requires : goal.put_plan-joins-requires
 put_plan-joins-requires c =
-    plan-fits _ _ _ (omega arith) (omega arith) c.requires.answer_room_in_bounds
+    plan-fits _ _ _ (omega arith) (omega arith) c.requires.room
 
 pub overflow_add-n : goal.overflow_add-n
 overflow_add-n c = omega (arith, answered-few c.requires.answered.1 c.if-answer-ne0.false)
@@ -32,7 +32,7 @@ put_joins-requires c =
     let z = c.requires.answered.1 in
     let none = c.if-answer-ne0.false in
     let p = c.put_plan-joins.ensures in
-    (c.requires.answered.0.query, answered-kept z none, answered-put z none (omega arith) (omega arith) p (all-tables _ c.single-all.ensures) (omega (arith, put-length p, c.requires.answer_room_in_bounds)))
+    (c.requires.answered.0.query, answered-kept z none, answered-put z none (omega arith) (omega arith) p (all-tables _ c.single-all.ensures) (omega (arith, put-length p, c.requires.room)))
 
 pub shape_of-out : goal.shape_of-out
 shape_of-out c =
