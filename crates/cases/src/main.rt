@@ -32,6 +32,9 @@ const MOST: usize = 31;
 
 const INPUT: usize = 480;
 
+// Room for the input.
+const TEXT: usize = 16384;
+
 // Where the numbers of each list begin.
 const ROWS: usize = 1;
 
@@ -604,9 +607,18 @@ fn take_lines(rt: &impl Print, text: &[u8], kept: &mut [u64], cells: &mut [u64])
 }
 
 fn main(rt: HostRuntime) -> io::Result<()> {
-    let mut text = Vec::new(rt.alloc());
-    rt.reader().take(16384).read_to_end(&mut text)?;
+    let mut text = [0u8; TEXT];
+    let mut length = 0usize;
+    let mut input = rt.reader();
+    // A read may give less than there is, and gives nothing at the end or where the room is used up.
+    for _ in 0..TEXT {
+        let more = input.read(&mut text[length..])?;
+        if more == 0 {
+            break;
+        }
+        length += more;
+    }
     let mut kept = [0u64; INPUT];
     let mut cells = [0u64; INPUT];
-    take_lines(&rt, &text, &mut kept, &mut cells)
+    take_lines(&rt, &text[0..length], &mut kept, &mut cells)
 }

@@ -2,7 +2,7 @@
 // What it must print was worked out from document 01 apart from this code, and stands in `stdout`.
 #![tactic(auto)]
 
-ghost use Rattle.std.specs.Prelude.{IfOk, ℕ, ◌+◌, ◌-◌, ◌≤◌, ◌<◌, length};
+ghost use Rattle.std.specs.Prelude.{◌≡◌, IfOk, ℕ, ◌+◌, ◌-◌, ◌≤◌, ◌<◌, length};
 ghost use Rattle.rules.specs.Limits.{max_workers};
 ghost use Rattle.rules.specs.declared.Shape.TheVariants.{Bushy};
 ghost use Rattle.rules.specs.Schedule.{by_size};
@@ -174,7 +174,8 @@ fn take_turns(
     requires prepared { Prepared (query_of rows.now scans.now left.now right.now divisors.now fixed.now outer.now inner.now res.now) sets.now estimates.now skips.now starts.now cells.now }
     requires group { (1 ≤ k) × (k ≤ length rows.now - 1) × Work (query_of rows.now scans.now left.now right.now divisors.now fixed.now outer.now inner.now res.now) crew (by_size Bushy) turns.now }
     requires within { Within (query_of rows.now scans.now left.now right.now divisors.now fixed.now outer.now inner.now res.now) crew k opened.workers (columns costs.old outers.old methods.old) }
-    ensures { IfOk result (λ s. Between (query_of rows.now scans.now left.now right.now divisors.now fixed.now outer.now inner.now res.now) crew (k + 1) s.workers (columns costs.new outers.new methods.new)) }
+    ensures between { IfOk result (λ s. Between (query_of rows.now scans.now left.now right.now divisors.now fixed.now outer.now inner.now res.now) crew (k + 1) s.workers (columns costs.new outers.new methods.new)) }
+    ensures lengths { (length costs.new ≡ length costs.old) × (length outers.new ≡ length outers.old) × (length methods.new ≡ length methods.old) }
 {
     let group = Group::by_size(k);
     let mut workers = opened.workers;

@@ -5,8 +5,8 @@ use Rattle.rounds.proofs.take_turns.Goals as goal
 pub turn-turned-requires-clause-board : goal.turn-turned-requires-clause-board
 turn-turned-requires-clause-board g c = within-board c.requires.group.2 c.requires.group.0 c.requires.group.1 c.by_size-group.ensures c.loop-low.invariant.4 c.requires.prepared
 
-pub turn-turned-requires-clause-w_bound : goal.turn-turned-requires-clause-w_bound
-turn-turned-requires-clause-w_bound g c =
+pub turn-turned-requires-clause-ready : goal.turn-turned-requires-clause-ready
+turn-turned-requires-clause-ready g c =
     let k = whose-known c.loop-low.used c.loop-low.low c.requires.group.2 c.loop-low-test.true c.whose_turn-w.ensures in
     (omega (arith, k, c.requires.group.2.few-workers), (within-places c.requires.group.2 c.requires.group.0 c.requires.group.1 c.by_size-group.ensures c.loop-low.invariant.4).ready _ k)
 
@@ -28,5 +28,5 @@ loop-low-preserved g c =
     let i = c.loop-low.invariant in
     (t.auto.costs ∙ i.0, t.auto.outers ∙ i.1, t.auto.methods ∙ i.2, c.lowest-low-in-loop-low.ensures, turned-within c.requires.group.2 c.requires.group.0 c.requires.group.1 c.by_size-group.ensures c.loop-low.invariant.4 k t.ensures c.requires.prepared)
 
-pub returns : goal.returns
-returns g c = closed-between c.requires.group.2 c.requires.group.0 c.requires.group.1 c.by_size-group.ensures c.loop-low.invariant.4 c.loop-low.invariant.3 (omega (arith, c.loop-low-test.false))
+pub returns-clause-between : goal.returns-clause-between
+returns-clause-between g c = closed-between c.requires.group.2 c.requires.group.0 c.requires.group.1 c.by_size-group.ensures c.loop-low.invariant.4 c.loop-low.invariant.3 (omega (arith, c.loop-low-test.false))
