@@ -68,8 +68,8 @@ abbrev pub met_numbered : Graph → Group → ℕ → Numbered
 met_numbered g group p = get_or (met g group) p no_candidate
 
 -- the share's worker has candidate p and may join it
-abbrev pub field_own : Graph → Group → Share → ℕ → Bool
-field_own g group h p = mine g (crew_of h) group h.worker (met_numbered g group p)
+abbrev pub own_at : Graph → Group → Share → ℕ → Bool
+own_at g group h p = mine g (crew_of h) group h.worker (met_numbered g group p)
 
 -- what is left to a worker from candidate p on
 abbrev pub queue_at : Graph → Group → Share → ℕ → List Numbered
@@ -157,14 +157,14 @@ pub record At (g : Graph) (group : Group) (p : Place) : Type 0 where
 
 -- "each with its own place": at the worker's next joinable pair, or nowhere
 pub record Waits (g : Graph) (group : Group) (h : Share) (p : Place) : Type 0 where
-  pub there : p.left ≡ true → At g group p × (field_own g group h p.number ≡ true)
+  pub there : p.left ≡ true → At g group p × (own_at g group h p.number ≡ true)
   pub none : p.left ≡ false → p ≡ nowhere (length (met g group))
 
 -- the worker's next joinable pair among the candidates numbered x and on, or none
 pub record NextFrom (g : Graph) (group : Group) (h : Share) (x : ℕ) (p : Place) : Type 0 where
   pub waits : Waits g group h p
   pub ahead : x ≤ p.number
-  pub clear : (y : ℕ) → x ≤ y → y < p.number → field_own g group h y ≡ false
+  pub clear : (y : ℕ) → x ≤ y → y < p.number → own_at g group h y ≡ false
 
 -- ---- how many candidates there are
 -- how many rows a size has

@@ -1,5 +1,5 @@
 -- A set has one row, a candidate one place, and from a number on a worker one next place.
-use Rattle.std.specs.Prelude.{◌≡◌, refl, ◌⊎◌, true, false, List, [], ◌∷◌, ℕ, zero, suc, ◌+◌, ◌-◌, ◌≤◌, ◌<◌, length, get_or}
+use Rattle.std.specs.Prelude.{◌≡◌, refl, ◌⊎◌, true, false, List, [], ◌∷◌, ℕ, zero, suc, ◌+◌, ◌≤◌, ◌<◌, length, get_or}
 use Rattle.std.proofs.Common.{sym, ap, ◌∙◌, inl, inr, le_antisymm, arith}
 use Rattle.rules.specs.Query.{Graph}
 use Rattle.rules.specs.declared.Group.{Group}

@@ -76,7 +76,7 @@ fn by_linked(parts: &[u64; 256], t: u64, linked: u64, e: u64) -> u64
 // Table `t` more, above the tables of `linked`, which have edges to it: times its rows, its divisions, and the cut.
 pub fn with_part(parts: &[u64; 256], t: u64, linked: u64, e: u64) -> u64
     requires divides { Divides parts.now t linked }
-    requires e_le_max_estimate { (e ≤ max_estimate) × (get_or parts.now (cell_of t t) 0 ≤ max_rows) }
+    requires limits { (e ≤ max_estimate) × (get_or parts.now (cell_of t t) 0 ≤ max_rows) }
     ensures { result ≡ min max_estimate (by_parts parts.now linked t (t - 1) (e * get_or parts.now (cell_of t t) 0)) }
 {
     let product = e * parts[cell(t, t)];
