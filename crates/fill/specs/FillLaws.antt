@@ -15,7 +15,7 @@ use Rattle.rules.specs.Query.{Graph, table_count, edge_count, at}
 use Rattle.rules.specs.Checked.{GoodGraph}
 use Rattle.rules.specs.Estimate.{estimate}
 use Rattle.rules.specs.Rows.{rows_of, memo}
-use Rattle.rules.proofs.laws.Lists.{row-split, at_map, length-map}
+use Rattle.rules.specs.laws.Lists.{row-split, at_map, length-map}
 use Rattle.rules.specs.laws.Bools.{true-or-false}
 use Rattle.rules.specs.laws.Decide.{connected?}
 use Rattle.graph.specs.Near.{Near}

@@ -84,7 +84,7 @@ pub fn lay_rows(
 )
     requires good_graph { GoodGraph (graph_of rows.now left.now right.now divisors.now) }
     requires tally { Tally (graph_of rows.now left.now right.now divisors.now) counts.now }
-    requires divisors_in_bounds { (length (memo (graph_of rows.now left.now right.now divisors.now)) ≤ length out.old) × (length (memo (graph_of rows.now left.now right.now divisors.now)) ≤ length estimates.old) }
+    requires room { (length (memo (graph_of rows.now left.now right.now divisors.now)) ≤ length out.old) × (length (memo (graph_of rows.now left.now right.now divisors.now)) ≤ length estimates.old) }
     ensures out { out.new ≡ sets out.old 0 (memo (graph_of rows.now left.now right.now divisors.now)) }
     ensures estimates { estimates.new ≡ sets estimates.old 0 (map (estimate (graph_of rows.now left.now right.now divisors.now)) (memo (graph_of rows.now left.now right.now divisors.now))) }
 {

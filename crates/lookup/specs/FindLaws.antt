@@ -8,7 +8,7 @@ use Rattle.rules.specs.Sets.{size, tables}
 use Rattle.rules.specs.Query.{Graph, table_count}
 use Rattle.rules.specs.Connected.{Connected}
 use Rattle.rules.specs.Rows.{Ordered, Before, before, rows_of}
-use Rattle.rules.proofs.laws.Lists.{at_in, in-at}
+use Rattle.rules.specs.laws.Lists.{at_in, in-at}
 use Rattle.rules.proofs.laws.Rows.{rows_all, rows-only, rows-ordered, below_all, yes-before}
 use Rattle.sets.specs.Order.{key}
 use Rattle.sets.specs.Laws.{before-key, before-width}

@@ -13,10 +13,10 @@ use Rattle.rules.specs.Query.{Graph, table_count, Query}
 use Rattle.rules.specs.Rows.{rows_of, memo}
 use Rattle.rules.specs.Skips.{vectors_from, vectors, skips}
 use Rattle.rules.specs.Refusals.{Input, refuse, first_of, rooms, groups, checks_of}
-use Rattle.rules.proofs.laws.Refusals.{AllAre, AllSame, same-groups}
+use Rattle.rules.specs.laws.Refusals.{AllAre, AllSame, same-groups}
 use Rattle.rows.specs.Sizes.{up_to}
 use Rattle.rows.specs.WalkLaws.{wrote-both, up_to-more, length_more}
-use Rattle.rules.proofs.laws.Lists.{row-split}
+use Rattle.rules.specs.laws.Lists.{row-split}
 use Rattle.skips.specs.SizeRows.{SizeRows}
 use Rattle.skips.specs.Vectors.{written}
 use Rattle.lookup.specs.FindLaws.{rows-sized}

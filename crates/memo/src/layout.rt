@@ -52,8 +52,8 @@ fn lay_skips(
 )
     requires good_graph { GoodGraph (graph_of rows.now left.now right.now divisors.now) }
     requires tally { Tally (graph_of rows.now left.now right.now divisors.now) counts.now }
-    requires sets_value { take (length (memo (graph_of rows.now left.now right.now divisors.now))) sets.now ≡ memo (graph_of rows.now left.now right.now divisors.now) }
-    requires divisors_in_bounds { length (skips (graph_of rows.now left.now right.now divisors.now)) ≤ length out.old }
+    requires sets { take (length (memo (graph_of rows.now left.now right.now divisors.now))) sets.now ≡ memo (graph_of rows.now left.now right.now divisors.now) }
+    requires room { length (skips (graph_of rows.now left.now right.now divisors.now)) ≤ length out.old }
     ensures { out.new ≡ written out.old 0 (skips (graph_of rows.now left.now right.now divisors.now)) }
 {
     let mut from = 0usize;
@@ -85,7 +85,7 @@ fn lay_columns(
     requires one_length { OneLength (lent sets.old estimates.old costs.old outers.old methods.old skips.old) }
     requires room { Room (graph_of rows.now left.now right.now divisors.now) (lent sets.old estimates.old costs.old outers.old methods.old skips.old) }
     requires tally { Tally (graph_of rows.now left.now right.now divisors.now) counts.now }
-    requires count_value { count ≡ length (memo (graph_of rows.now left.now right.now divisors.now)) }
+    requires count { count ≡ length (memo (graph_of rows.now left.now right.now divisors.now)) }
     ensures { lent sets.new estimates.new costs.new outers.new methods.new skips.new ≡ laid (graph_of rows.now left.now right.now divisors.now) (lent sets.old estimates.old costs.old outers.old methods.old skips.old) }
 {
     lay_rows(rows, left, right, divisors, counts, sets, estimates);

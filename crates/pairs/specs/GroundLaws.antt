@@ -21,10 +21,10 @@ use Rattle.rules.specs.Skips.{Skip, vectors, skips}
 use Rattle.rules.specs.Candidates.{with_row, across, within, driven, candidates, candidates_of, joinable}
 use Rattle.rules.specs.Shares.{Numbered, owns, met, queue}
 use Rattle.rules.specs.laws.Bools.{and-true, and-true-l}
-use Rattle.rules.proofs.laws.Lists.{at_in}
+use Rattle.rules.specs.laws.Lists.{at_in}
 use Rattle.rules.proofs.laws.Rows.{rows-only, below_all}
 use Rattle.rules.proofs.laws.Skips.{vector-right}
-use Rattle.rules.proofs.laws.Candidates.{numbered-length}
+use Rattle.rules.specs.laws.Candidates.{numbered-length}
 use Rattle.rules.proofs.laws.Complete.{mine, queue-mine}
 use Rattle.sets.specs.Laws.{rank-at, rank_lt}
 use Rattle.rows.specs.WalkLaws.{rows_fit}

@@ -17,7 +17,7 @@ use Rattle.rules.specs.Rows.{rows_of, memo}
 use Rattle.rules.specs.Candidates.{Candidate, with_row, across, within, driven, candidates_of, candidates}
 use Rattle.rules.specs.Shares.{numbered, met}
 use Rattle.rules.specs.laws.Bools.{true-or-false}
-use Rattle.rules.proofs.laws.Candidates.{numbered-length}
+use Rattle.rules.specs.laws.Candidates.{numbered-length}
 use Rattle.rows.specs.Sizes.{up_to}
 use Rattle.rows.specs.WalkLaws.{length_more, rows_fit, rows-walk, walk-few}
 use Rattle.shares.specs.Shares.{few}

@@ -14,7 +14,7 @@ use Rattle.rules.specs.Checked.{GoodGraph}
 use Rattle.rules.specs.Rows.{rows_of, memo}
 use Rattle.rules.specs.Shares.{Numbered, cut, in_cut, owns, met}
 use Rattle.rules.specs.laws.Bools.{true-or-false, and-true, and-true-l, and_true_r}
-use Rattle.rules.proofs.laws.Shares.{cut-mono, cut_all}
+use Rattle.rules.specs.laws.Shares.{cut-mono, cut_all}
 use Rattle.shares.specs.declared.Share.{Share}
 use Rattle.shares.specs.declared.Span.{Span}
 use Rattle.shares.specs.Shares.{few, ShareFits, ShareOf, spans, in_span, all_span, clipped, span_by, span_of, on_by, on_span, Aligned}

@@ -6,7 +6,7 @@ use Rattle.rules.specs.declared.Group.{Group}
 use Rattle.rules.specs.Schedule.{inner_at}
 use Rattle.rules.specs.Rows.{memo}
 use Rattle.rules.specs.laws.Bools.{true-or-false, not-both}
-use Rattle.rules.proofs.laws.Lists.{Once, at_in}
+use Rattle.rules.specs.laws.Lists.{Once, at_in}
 use Rattle.rules.proofs.laws.Rows.{memo-once}
 use Rattle.shares.specs.declared.places.Place.{Place}
 use Rattle.shares.specs.declared.Share.{Share}

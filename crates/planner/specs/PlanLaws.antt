@@ -20,11 +20,11 @@ use Rattle.rules.specs.Skips.{skips}
 use Rattle.rules.specs.Refusals.{Memory, Input, refuse, first_of, checks_of, checks, rooms, verdict, memo_lengths, log_lengths}
 use Rattle.rules.specs.Checked.{GoodGraph, Checked}
 use Rattle.rules.specs.Answers.{each, Spared, refusal, Filled, schedule_of, Logged, Counted, Planned}
-use Rattle.rules.proofs.laws.Lists.{at_in, length-map}
+use Rattle.rules.specs.laws.Lists.{at_in, length-map}
 use Rattle.rules.proofs.laws.Rows.{rows-only, rows_all, below_all}
 use Rattle.rules.specs.laws.Sets.{size-zero, full-only}
-use Rattle.rules.proofs.laws.Kinds.{crew-workers}
-use Rattle.rules.proofs.laws.Refusals.{checked, crew-named}
+use Rattle.rules.specs.laws.Kinds.{crew-workers}
+use Rattle.rules.specs.laws.Refusals.{checked, crew-named}
 use Rattle.memo.specs.declared.layout.Laid.{Laid}
 use Rattle.skips.specs.Vectors.{written}
 use Rattle.memo.specs.Layout.{Lent, lent_of, OneLength, Room, laid, counts, refused, LaidOut}

@@ -18,7 +18,7 @@ use Rattle.rules.specs.laws.Bools.{true-or-false, or-true-l, or_true_r}
 use Rattle.sets.specs.Laws.{shifted_one}
 use Rattle.query.specs.Lists.{same_pair}
 use Rattle.refusals.specs.Checks.{query_groups, table_number, method_number, table_checks, method_checks, graph_checks, crew_checks, TablesGood}
-use Rattle.rules.proofs.laws.Refusals.{lengths-of, same_true, none-refuse, none-bad, range, table-true, edge-true, bad-step, bad-here, bad-end, SameLengths}
+use Rattle.rules.specs.laws.Refusals.{lengths-of, same_true, none-refuse, none-bad, range, table-true, edge-true, bad-step, bad-here, bad-end, SameLengths}
 use Rattle.rules.specs.laws.Decide.{connected?}
 use Rattle.rules.specs.declared.Verdict.{Verdict}
 use Rattle.rules.specs.declared.Table.{Table}

@@ -8,9 +8,9 @@ use Rattle.std.proofs.lemmas.List.{set-get_or}
 use Rattle.rules.specs.Limits.{max_fixed, max_coefficient}
 use Rattle.rules.specs.Offers as rules
 use Rattle.rules.specs.Offers.{Pair, sides, Priced, Offered}
-use Rattle.rules.proofs.laws.Choice.{Best, best-keep, best-take}
+use Rattle.rules.specs.laws.Choice.{Best, best-keep, best-take}
 use Rattle.rules.proofs.laws.Ways.{both-sides, one_side}
-use Rattle.rules.proofs.laws.Reference.{sooner, better, better-first, kept}
+use Rattle.rules.specs.laws.Choice.{sooner, better, better-first, kept}
 use Rattle.results.specs.Prices.{choice_at, price_by, packed, lesser, Methods, Estimates, Cheapest, join_by}
 
 -- ---- the lesser of two

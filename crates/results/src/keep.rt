@@ -1,6 +1,6 @@
 // What a memo row keeps of the choices for it.
 ghost use Rattle.std.specs.Prelude.{◌≡◌, ◌<◌, length, set};
-ghost use Rattle.rules.proofs.laws.Reference.{kept};
+ghost use Rattle.rules.specs.laws.Choice.{kept};
 ghost use Rattle.results.specs.Prices.{choice_of, choice_at};
 
 use super::price::{Choice, sooner};

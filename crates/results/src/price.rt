@@ -2,8 +2,8 @@
 ghost use Rattle.std.specs.Prelude.{◌≡◌, ◌+◌, ◌<◌, ◌≤◌, length};
 ghost use Rattle.rules.specs.Limits.{max_fixed, max_coefficient, cost_bound};
 ghost use Rattle.rules.specs.Offers.{sides, Offered};
-ghost use Rattle.rules.proofs.laws.Choice.{Best};
-ghost use Rattle.rules.proofs.laws.Reference.{sooner};
+ghost use Rattle.rules.specs.laws.Choice.{Best};
+ghost use Rattle.rules.specs.laws.Choice.{sooner};
 ghost use Rattle.results.specs.Prices.{choice_of, packed, lesser, Methods, Estimates, Cheapest, join_by};
 
 // One way to join a pair: its cost, the outer set, the method.

@@ -16,10 +16,10 @@ use Rattle.rules.specs.Skips.{skips}
 use Rattle.rules.specs.Refusals.{first_of, checks_of}
 use Rattle.rules.specs.Checked.{GoodGraph, Sound}
 use Rattle.rules.specs.laws.Bools.{true-or-false}
-use Rattle.rules.proofs.laws.Lists.{at_in}
-use Rattle.rules.proofs.laws.Shares.{cut-mono}
+use Rattle.rules.specs.laws.Lists.{at_in}
+use Rattle.rules.specs.laws.Shares.{cut-mono}
 use Rattle.rules.proofs.laws.Rows.{memo-only, below_all}
-use Rattle.rules.proofs.laws.Refusals.{sound-of, crew-of, turns-of}
+use Rattle.rules.specs.laws.Refusals.{sound-of, crew-of, turns-of}
 use Rattle.memo.specs.declared.layout.Laid.{Laid}
 use Rattle.skips.specs.Vectors.{written}
 use Rattle.starts.specs.Starts.{starts, cell_starts}
@@ -27,7 +27,7 @@ use Rattle.memo.specs.Layout.{Lent, OneLength, Room, laid, LaidOut}
 use Rattle.memo.specs.LayoutLaws.{still-long, one-length}
 use Rattle.shares.specs.Shares.{few}
 use Rattle.pairs.specs.Places.{Fit}
-use Rattle.rules.proofs.laws.Reference.{kept}
+use Rattle.rules.specs.laws.Choice.{kept}
 use Rattle.crew.specs.declared.Worker.{Worker}
 use Rattle.crew.specs.declared.Handed as code
 use Rattle.opening.specs.Opening.{Opened}

@@ -11,7 +11,7 @@ use Rattle.rules.specs.Sets.{number, single, size}
 use Rattle.rules.specs.Query.{Graph, table_count}
 use Rattle.rules.specs.Rows.{combos, sequences, rows_of, memo}
 use Rattle.rules.specs.Skips.{skips}
-use Rattle.rules.proofs.laws.Lists.{length-map, row_last, sum, sum-append}
+use Rattle.rules.specs.laws.Lists.{length-map, row_last, sum, sum-append}
 use Rattle.rules.specs.laws.Decide.{connected?}
 use Rattle.rules.proofs.laws.Rows.{rows-only}
 use Rattle.rules.proofs.laws.Skips.{cells-sizes}

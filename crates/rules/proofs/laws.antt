@@ -1,11 +1,6 @@
 -- What follows from the definitions. A reader need believe nothing here: it is proved.
-pub mod Kinds
-pub mod Lists
-pub mod Tables
-pub mod Copies
 pub mod Shapes
 pub mod Rows
-pub mod Choice
 pub mod Bellman
 pub mod Ways
 pub mod Handed
@@ -13,15 +8,10 @@ pub mod Memo
 pub mod Picked
 pub mod Reference
 pub mod Estimate
-pub mod Shares
-pub mod Candidates
 pub mod Skips
-pub mod Turns
-pub mod Hands
 pub mod Complete
 pub mod Schedule
 pub mod Final
-pub mod Refusals
 pub mod Outcome
 pub mod Progress
 pub mod Answers

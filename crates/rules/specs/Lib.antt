@@ -1,4 +1,4 @@
--- Document 01 in mathematics, one module for each idea, in the order of its sections; `proofs/laws` proves what follows.
+-- Document 01 in mathematics, one module for each idea, in the order of its sections; `laws`, and `proofs/laws`, prove what follows.
 pub mod Limits
 pub mod Kinds
 pub mod Lists

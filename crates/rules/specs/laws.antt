@@ -1,5 +1,15 @@
--- What the definitions themselves rest on: sets, and that a test tells whether a set is connected. What follows from the definitions stands in proofs/laws.
+-- Laws of single definitions. What follows from several of them together, the theorems, stands in proofs/laws.
+pub mod Kinds
 pub mod Bools
+pub mod Lists
 pub mod Sets
+pub mod Tables
+pub mod Copies
 pub mod Connected
 pub mod Decide
+pub mod Choice
+pub mod Shares
+pub mod Candidates
+pub mod Turns
+pub mod Hands
+pub mod Refusals

@@ -13,7 +13,7 @@ use Rattle.rules.specs.Turns.{Hand}
 use Rattle.rules.specs.Log.{pair_of, Stands}
 use Rattle.rules.specs.Refusals.{Memory}
 use Rattle.rules.specs.Answers.{Spared, shown, up_to, Logged}
-use Rattle.rules.proofs.laws.Lists.{length-map, over-length}
+use Rattle.rules.specs.laws.Lists.{length-map, over-length}
 use Rattle.rules.proofs.laws.Outcome.{result_at}
 use Rattle.crew.specs.declared.Handed as code
 use Rattle.crew.specs.Logs.{noted, SameLog, LogFits}

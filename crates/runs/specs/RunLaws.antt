@@ -18,10 +18,10 @@ use Rattle.rules.specs.Turns.{Hand, pop, hand, Empty, Lowest, closed, listed, lo
 use Rattle.rules.specs.Log.{pair_of, Stands}
 use Rattle.rules.specs.Refusals.{Memory}
 use Rattle.rules.specs.Answers.{per_worker}
-use Rattle.rules.proofs.laws.Lists.{at_in}
+use Rattle.rules.specs.laws.Lists.{at_in}
 use Rattle.rules.proofs.laws.Rows.{memo-only}
-use Rattle.rules.proofs.laws.Choice.{Best}
-use Rattle.rules.proofs.laws.Reference.{kept}
+use Rattle.rules.specs.laws.Choice.{Best}
+use Rattle.rules.specs.laws.Choice.{kept}
 use Rattle.rules.proofs.laws.Handed.{JoinablePair, With, Handed, handed-same, row-stands}
 use Rattle.rules.proofs.laws.Progress.{FinalRow, Stood, Sofar, between-end, sofar-joinable}
 use Rattle.rules.proofs.laws.Outcome.{best_at, best-least}

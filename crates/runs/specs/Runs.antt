@@ -14,7 +14,7 @@ use Rattle.rules.specs.Log.{pair_of}
 use Rattle.rules.specs.Refusals.{Memory}
 use Rattle.rules.specs.Checked.{Sound}
 use Rattle.rules.specs.Answers.{Spared, Logged, per_worker}
-use Rattle.rules.proofs.laws.Turns.{Below}
+use Rattle.rules.specs.laws.Turns.{Below}
 use Rattle.rules.proofs.laws.Handed.{among}
 use Rattle.rules.proofs.laws.Progress.{FinalRow, Before, Sofar}
 use Rattle.skips.specs.Vectors.{written}

@@ -16,7 +16,7 @@ use Rattle.rules.specs.Turns.{Hand}
 use Rattle.rules.specs.Log.{pair_of}
 use Rattle.rules.specs.Lists.{over}
 use Rattle.rules.specs.Answers.{Spared, shown, Logged}
-use Rattle.rules.proofs.laws.Lists.{length-map, over-length}
+use Rattle.rules.specs.laws.Lists.{length-map, over-length}
 use Rattle.rules.proofs.laws.Schedule.{by-size}
 use Rattle.starts.specs.Starts.{starts, cell_starts}
 use Rattle.rules.specs.laws.Bools.{true-or-false, not-both}

@@ -7,8 +7,8 @@ use Rattle.rules.specs.Shares.{Numbered}
 use Rattle.rules.specs.Turns.{Hand, only}
 use Rattle.rules.specs.Answers.{each, per_worker}
 use Rattle.rules.specs.laws.Bools.{true-or-false}
-use Rattle.rules.proofs.laws.Turns.{sum_to, Below, counts-sum}
-use Rattle.rules.proofs.laws.Hands.{only-absent}
+use Rattle.rules.specs.laws.Turns.{sum_to, Below, counts-sum}
+use Rattle.rules.specs.laws.Hands.{only-absent}
 use Rattle.crew.specs.declared.Worker.{Worker}
 use Rattle.crew.specs.Workers.{nobody, worker_at}
 use Rattle.runs.specs.Runs.{Tallied}

@@ -10,7 +10,7 @@ use Rattle.std.proofs.Math.Pow.{field, mod-mod-pow}
 use Rattle.rules.specs.Sets.{holds, size, tables_from, tables, rank, Lowest}
 use Rattle.rules.specs.Rows.{before}
 use Rattle.rules.specs.laws.Sets.{bit, bit-div, bit-lt, bit-of-zero, holds-bit, holds-none, single-suc, size-zero, Parity, parity}
-use Rattle.rules.proofs.laws.Tables.{tables-with, tables-without, tables-zero}
+use Rattle.rules.specs.laws.Tables.{tables-with, tables-without, tables-zero}
 use Rattle.sets.specs.Order.{key}
 
 -- ---- the code's forms

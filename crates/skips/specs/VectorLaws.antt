@@ -15,9 +15,9 @@ use Rattle.rules.specs.Query.{Graph, table_count}
 use Rattle.rules.specs.Rows.{rows_of}
 use Rattle.rules.specs.Skips.{skip_from, vectors_from, vectors}
 use Rattle.rules.specs.laws.Bools.{true-or-false}
-use Rattle.rules.proofs.laws.Lists.{length-map, at_map}
+use Rattle.rules.specs.laws.Lists.{length-map, at_map}
 use Rattle.rules.specs.laws.Sets.{bit, holds-bit, holds-none, bit-lt, holds-minus, holds-pos, splits-size, single-suc, size-pow, size-zero, Parity, parity}
-use Rattle.rules.proofs.laws.Tables.{tables-with, tables-without, tables-zero, tables-size}
+use Rattle.rules.specs.laws.Tables.{tables-with, tables-without, tables-zero, tables-size}
 use Rattle.rules.proofs.laws.Rows.{rows-only, below_all}
 use Rattle.sets.specs.Laws.{rank-at, rank_lt, tables-width}
 use Rattle.skips.specs.SizeRows.{SizeRows}

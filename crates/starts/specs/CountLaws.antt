@@ -15,7 +15,7 @@ use Rattle.rules.specs.Lists.{in_row}
 use Rattle.rules.specs.Query.{Graph, table_count}
 use Rattle.rules.specs.Rows.{rows_of}
 use Rattle.rules.specs.Skips.{vectors}
-use Rattle.rules.proofs.laws.Lists.{row-split}
+use Rattle.rules.specs.laws.Lists.{row-split}
 use Rattle.rows.specs.WalkLaws.{rows_fit}
 use Rattle.skips.specs.VectorLaws.{vectors-cells}
 use Rattle.skips.specs.Vectors.{written}

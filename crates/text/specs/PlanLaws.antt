@@ -16,10 +16,10 @@ use Rattle.rules.specs.Answers as rules
 use Rattle.rules.specs.Answers.{Outcome, Row, Filled, Given, Planned}
 use Rattle.rules.specs.Writing.{plan_line, join_lines, refusal_line}
 use Rattle.rules.specs.Text.{blanks, PlanText}
-use Rattle.rules.proofs.laws.Lists.{in-at, length-map, at_map, over-length, over-at, over-past}
+use Rattle.rules.specs.laws.Lists.{in-at, length-map, at_map, over-length, over-at, over-past}
 use Rattle.rules.specs.laws.Sets.{size-le}
 use Rattle.rules.proofs.laws.Rows.{memo-only, below_all}
-use Rattle.rules.proofs.laws.Refusals.{accepted}
+use Rattle.rules.specs.laws.Refusals.{accepted}
 use Rattle.rules.proofs.laws.Bellman.{least-unique}
 use Rattle.rules.proofs.laws.Picked.{picked-valid, picked-least}
 use Rattle.rules.proofs.laws.Writing.{line_room, plan-room, refusal-room, joins-room}

@@ -2,7 +2,7 @@
 use Rattle.std.specs.Prelude.{◌≡◌, refl, ◌⊎◌, true, false, cond, List, [], ◌∷◌, ℕ, zero, suc, ◌<◌, eqb, length, get_or}
 use Rattle.std.proofs.Common.{sym, ap, ◌∙◌, inl, inr, arith, eqb-true, eq-eqb}
 use Rattle.rules.specs.laws.Bools.{true-or-false}
-use Rattle.rules.proofs.laws.Lists.{Once}
+use Rattle.rules.specs.laws.Lists.{Once}
 use Rattle.pairs.specs.UniqueLaws.{once-at}
 
 -- its first place, or the list's length

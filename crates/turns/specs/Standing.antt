@@ -12,8 +12,8 @@ use Rattle.rules.specs.Rows.{memo}
 use Rattle.rules.specs.Shares.{Numbered, met}
 use Rattle.rules.specs.Turns.{Hand}
 use Rattle.rules.specs.Checked.{GoodGraph, Sound}
-use Rattle.rules.proofs.laws.Choice.{Best}
-use Rattle.rules.proofs.laws.Reference.{kept}
+use Rattle.rules.specs.laws.Choice.{Best}
+use Rattle.rules.specs.laws.Choice.{kept}
 use Rattle.rules.proofs.laws.Complete.{mine}
 use Rattle.rules.proofs.laws.Progress as progress
 use Rattle.turns.specs.Index.{index_of}

@@ -20,10 +20,10 @@ use Rattle.rules.specs.Candidates.{Candidate, candidates, joinable}
 use Rattle.rules.specs.Shares.{Numbered, numbered, met}
 use Rattle.rules.specs.Log.{sets_of, pair_of}
 use Rattle.rules.specs.laws.Bools.{true-or-false, not-both}
-use Rattle.rules.proofs.laws.Lists.{at_in}
-use Rattle.rules.proofs.laws.Choice.{Best}
-use Rattle.rules.proofs.laws.Reference.{kept}
-use Rattle.rules.proofs.laws.Candidates.{numbered_of, numbered-length}
+use Rattle.rules.specs.laws.Lists.{at_in}
+use Rattle.rules.specs.laws.Choice.{Best}
+use Rattle.rules.specs.laws.Choice.{kept}
+use Rattle.rules.specs.laws.Candidates.{numbered_of, numbered-length}
 use Rattle.rules.proofs.laws.Handed.{With}
 use Rattle.rules.specs.laws.Connected.{connected-join}
 use Rattle.rules.proofs.laws.Rows.{memo-once}

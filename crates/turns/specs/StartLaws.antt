@@ -18,7 +18,7 @@ use Rattle.rules.specs.Rows.{rows_of, memo}
 use Rattle.rules.specs.Skips.{skips}
 use Rattle.rules.specs.Checked.{GoodGraph, Sound}
 use Rattle.rules.specs.laws.Bools.{true-yes}
-use Rattle.rules.proofs.laws.Lists.{length-map, over-at, at_in, in-at}
+use Rattle.rules.specs.laws.Lists.{length-map, over-at, at_in, in-at}
 use Rattle.rules.specs.laws.Sets.{size-pow, size-pos}
 use Rattle.rules.specs.laws.Connected.{connected-single}
 use Rattle.rules.specs.laws.Decide.{connected?}

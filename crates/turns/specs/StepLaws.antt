@@ -16,15 +16,15 @@ use Rattle.rules.specs.Rows.{rows_of, memo}
 use Rattle.rules.specs.Candidates.{joinable}
 use Rattle.rules.specs.Shares.{met, owns}
 use Rattle.rules.specs.laws.Bools.{true-or-false, and_true_r}
-use Rattle.rules.proofs.laws.Lists.{at_in, at_map, length-map}
+use Rattle.rules.specs.laws.Lists.{at_in, at_map, length-map}
 use Rattle.rules.specs.laws.Sets.{splits-size}
 use Rattle.rules.specs.laws.Connected.{connected-join}
 use Rattle.rules.proofs.laws.Rows.{rows-only, below_all}
 use Rattle.rules.proofs.laws.Estimate.{estimate_le}
 use Rattle.rules.specs.Offers as rules
 use Rattle.rules.specs.Offers.{Way, along, back, sides, Offered}
-use Rattle.rules.proofs.laws.Choice.{Best, best-same}
-use Rattle.rules.proofs.laws.Reference.{kept}
+use Rattle.rules.specs.laws.Choice.{Best, best-same}
+use Rattle.rules.specs.laws.Choice.{kept}
 use Rattle.rules.proofs.laws.Ways.{side-of, offered-same}
 use Rattle.rules.proofs.laws.Handed.{JoinablePair}
 use Rattle.rules.proofs.laws.Complete.{mine, met-joinable, apart-differ}

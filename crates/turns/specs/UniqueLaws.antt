@@ -5,11 +5,11 @@ use Rattle.rules.specs.declared.Group.{Group}
 use Rattle.rules.specs.Query.{Graph}
 use Rattle.rules.specs.laws.Bools.{true-or-false, not-both}
 use Rattle.rules.specs.Offers as rules
-use Rattle.rules.proofs.laws.Choice.{Best, best-unique}
+use Rattle.rules.specs.laws.Choice.{Best, best-unique}
 use Rattle.results.specs.declared.price.Choice.{Choice}
 use Rattle.crew.specs.declared.Worker.{Worker}
 use Rattle.crew.specs.declared.Handed as code
-use Rattle.rules.proofs.laws.Reference.{kept}
+use Rattle.rules.specs.laws.Choice.{kept}
 use Rattle.results.specs.Prices.{choice_of}
 use Rattle.turns.specs.Standing.{Columns, choice_in, stored, pair_at, handed_pair, Handing, StepTaken, TurnTaken}
 use Rattle.crew.specs.Workers.{worker_at}

@@ -2,7 +2,7 @@ use mathlib.Core.Path.{◌≡◌, refl, ap, ◌∙◌}
 use Prim.Native.Nat.{ℕ, ◌-◌, ◌≤◌}
 use native.Mathlib.Omega.{arith}
 use lib.ListN.{length, length-set}
-use Rattle.rules.proofs.laws.Copies.{copied, copied_none, copied_more, copied_all}
+use Rattle.rules.specs.laws.Copies.{copied, copied_none, copied_more, copied_all}
 use Rattle.harness.proofs.copy.Statement.{statement}
 use Rattle.harness.proofs.copy.Tie as tie
 

@@ -1,6 +1,6 @@
 use mathlib.Core.Path.{sym, ap, ◌∙◌}
 use Rattle.rules.specs.declared.Verdict.{Verdict}
-use Rattle.rules.proofs.laws.Refusals.{sound-of}
+use Rattle.rules.specs.laws.Refusals.{sound-of}
 use Rattle.query.specs.Lists.{query_of}
 use Rattle.memo.specs.Layout.{lent}
 use Rattle.memo.specs.LayoutLaws.{one-length}

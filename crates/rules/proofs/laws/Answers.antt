@@ -18,14 +18,14 @@ use Rattle.rules.specs.Shares.{Numbered}
 use Rattle.rules.specs.Turns.{Hand, only}
 use Rattle.rules.specs.Refusals.{Memory, Input, verdict}
 use Rattle.rules.specs.Answers.{Outcome, each, Refused, Spared, Row, Filled, queues_of, InTurn, Logged, Counted, Given, Planned}
-use Rattle.rules.proofs.laws.Lists.{sum}
+use Rattle.rules.specs.laws.Lists.{sum}
 use Rattle.rules.proofs.laws.Bellman.{least-unique, pick-unique}
 use Rattle.rules.proofs.laws.Handed.{stands-unique}
-use Rattle.rules.proofs.laws.Turns.{groups-unique, sum_to, counts-sum, Below}
-use Rattle.rules.proofs.laws.Hands.{only-absent}
+use Rattle.rules.specs.laws.Turns.{groups-unique, sum_to, counts-sum, Below}
+use Rattle.rules.specs.laws.Hands.{only-absent}
 use Rattle.rules.proofs.laws.Complete.{groups-below}
-use Rattle.rules.proofs.laws.Kinds.{crew-workers}
-use Rattle.rules.proofs.laws.Refusals.{accepted}
+use Rattle.rules.specs.laws.Kinds.{crew-workers}
+use Rattle.rules.specs.laws.Refusals.{accepted}
 use Rattle.rules.proofs.laws.Outcome.{outcome, outcome-planned, entries-of}
 
 -- a column is settled by its first cells and what it was

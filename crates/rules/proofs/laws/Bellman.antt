@@ -3,7 +3,7 @@ use Rattle.std.specs.Prelude.{◌≡◌, ℕ, ◌+◌, ◌-◌, ◌≤◌, ◌<�
 use Rattle.std.proofs.Math.Path.{refl, ap}
 use Rattle.std.proofs.Common.{sym, ◌∙◌, le_antisymm, arith, pow_pos}
 use Rattle.rules.specs.Offers.{Choice}
-use Rattle.rules.proofs.laws.Choice.{Best}
+use Rattle.rules.specs.laws.Choice.{Best}
 use Rattle.rules.specs.Sets.{size}
 use Rattle.rules.specs.laws.Sets.{size-sum, size-pow, size-pos, holds-pos}
 use Rattle.rules.specs.Query.{Graph, Query, IsMethod, Between}

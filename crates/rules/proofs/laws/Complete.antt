@@ -22,16 +22,16 @@ use Rattle.rules.specs.Shares.{Numbered, numbered, met, owns, share, queue}
 use Rattle.rules.specs.Turns.{Hand, Run, closed, listed, lowest, Groups, only}
 use Rattle.rules.specs.Log.{sets_of, pair_of}
 use Rattle.rules.specs.laws.Bools.{and-true, and-true-l, and_true_r, yes_true, true-yes}
-use Rattle.rules.proofs.laws.Lists.{keep-both, Once}
+use Rattle.rules.specs.laws.Lists.{keep-both, Once}
 use Rattle.rules.specs.laws.Sets.{holds-apart, holds-some}
 use Rattle.rules.specs.laws.Connected.{joinable-sym}
 use Rattle.rules.specs.laws.Decide.{between?}
 use Rattle.rules.proofs.laws.Rows.{rows_all, rows-only, rows-once}
 use Rattle.rules.proofs.laws.Handed.{JoinablePair, among, Complete}
-use Rattle.rules.proofs.laws.Shares.{One, owns-one}
-use Rattle.rules.proofs.laws.Candidates.{Has, candidates-all, met_of, numbered-in, numbered_of, numbered-length, numbered-once, SameSets, Rising, candidates-apart, numbered-pair}
-use Rattle.rules.proofs.laws.Turns.{Entries, Below, run-below, run-queues, counts-sum, sum_same}
-use Rattle.rules.proofs.laws.Hands.{HandedBy, run-all, run_only, run-once, queues-total}
+use Rattle.rules.specs.laws.Shares.{One, owns-one}
+use Rattle.rules.specs.laws.Candidates.{Has, candidates-all, met_of, numbered-in, numbered_of, numbered-length, numbered-once, SameSets, Rising, candidates-apart, numbered-pair}
+use Rattle.rules.specs.laws.Turns.{Entries, Below, run-below, run-queues, counts-sum, sum_same}
+use Rattle.rules.specs.laws.Hands.{HandedBy, run-all, run_only, run-once, queues-total}
 
 -- ---- joinable, as a fact
 pub joinable-true : (g : Graph) (c : Candidate) → joinable g c ≡ true → Joinable g c.driving c.inner

@@ -15,13 +15,13 @@ use Rattle.rules.specs.Schedule.{Schedule, Meets, Asked, Scheduled}
 use Rattle.rules.specs.Shares.{Numbered}
 use Rattle.rules.specs.Turns.{Hand, Groups}
 use Rattle.rules.specs.Log.{sets_of, pair_of}
-use Rattle.rules.proofs.laws.Lists.{Once, once-append}
+use Rattle.rules.specs.laws.Lists.{Once, once-append}
 use Rattle.rules.specs.laws.Sets.{splits-size, size-pos}
 use Rattle.rules.specs.laws.Connected.{connected-join}
 use Rattle.rules.proofs.laws.Shapes.{fits-less}
 use Rattle.rules.proofs.laws.Rows.{size-count}
 use Rattle.rules.proofs.laws.Handed.{JoinablePair, among, Complete}
-use Rattle.rules.proofs.laws.Turns.{Entries}
+use Rattle.rules.specs.laws.Turns.{Entries}
 use Rattle.rules.proofs.laws.Complete.{InGroup, swap, joinable-swap, From, queues, hands-once, sized_of, entries-left, map-append, groups-from, groups-complete, Earlier, groups-earlier}
 use Rattle.rules.proofs.laws.Ways.{sides-are}
 

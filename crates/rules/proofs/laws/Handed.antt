@@ -3,7 +3,7 @@ use Rattle.std.specs.Prelude.{◌≡◌, refl, ◌⊎◌, ℕ, ◌+◌}
 use Rattle.std.proofs.Common.{sym, ap, ◌∙◌, inl, inr, ⊎_elim, add_comm, le_antisymm}
 use mathlib.Core.List.{List, Memᴰ}
 use Rattle.rules.specs.Offers.{Pair, union, Way, along, back, Choice, Priced, join_cost, Offers}
-use Rattle.rules.proofs.laws.Choice.{NoLater, Best, Either, best-same, best-keep, best-take, best-unique}
+use Rattle.rules.specs.laws.Choice.{NoLater, Best, Either, best-same, best-keep, best-take, best-unique}
 use Rattle.rules.specs.Query.{Graph, Query, method_count}
 use Rattle.rules.specs.Connected.{Connected}
 use Rattle.rules.specs.Trees.{Joinable, Inner, Least}

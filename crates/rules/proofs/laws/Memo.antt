@@ -3,7 +3,7 @@ use Rattle.std.specs.Prelude.{◌≡◌, refl, ℕ, zero, suc, ◌-◌, ◌≤�
 use Rattle.std.proofs.Common.{ap, le_refl, arith}
 use Rattle.std.proofs.Math.Decide.{dec_lt}
 use Rattle.rules.specs.Offers.{Choice, Pair}
-use Rattle.rules.proofs.laws.Choice.{Best}
+use Rattle.rules.specs.laws.Choice.{Best}
 use Rattle.rules.specs.Sets.{size, single}
 use Rattle.rules.specs.laws.Sets.{holds-single, holds-single-only, size-sum, size-pow, size-pos}
 use Rattle.rules.specs.Query.{Query, IsTable, IsMethod, at}

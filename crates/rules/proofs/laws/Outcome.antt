@@ -31,14 +31,15 @@ use Rattle.rules.specs.Checked.{Sound, Accepted}
 use Rattle.rules.specs.Answers.{Outcome, each, per_worker, refusal, Refused, Spared, Row, Filled, schedule_of, queues_of, shown, up_to, Logged, Counted, Given, Planned}
 use Rattle.rules.specs.laws.Bools.{find}
 use Rattle.rules.specs.laws.Decide.{between?, connected?}
-use Rattle.rules.proofs.laws.Lists.{at_in, at_map, length-map, over-length, over-spare, over-at}
+use Rattle.rules.specs.laws.Lists.{at_in, at_map, length-map, over-length, over-spare, over-at}
 use Rattle.rules.proofs.laws.Rows.{memo-only, size-count}
 use Rattle.rules.proofs.laws.Handed.{JoinablePair, row-stands}
-use Rattle.rules.proofs.laws.Reference.{sooner, better, best_of, by_method, splits_at, offers_below, offers_of, row_of, scan_row, row-least, row-pick, pick_of, offers_by, offers_for, handed-best}
-use Rattle.rules.proofs.laws.Turns.{Entries, groups-exist}
+use Rattle.rules.proofs.laws.Reference.{by_method, splits_at, offers_below, offers_of, row_of, scan_row, row-least, row-pick, pick_of, offers_by, offers_for, handed-best}
+use Rattle.rules.specs.laws.Choice.{sooner, better, best_of}
+use Rattle.rules.specs.laws.Turns.{Entries, groups-exist}
 use Rattle.rules.proofs.laws.Schedule.{by-size}
 use Rattle.rules.proofs.laws.Final.{plan-joinable, plan-shaped}
-use Rattle.rules.proofs.laws.Refusals.{accepted, crew-named}
+use Rattle.rules.specs.laws.Refusals.{accepted, crew-named}
 
 -- ---- what computes
 -- the row of S

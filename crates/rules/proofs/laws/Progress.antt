@@ -22,13 +22,13 @@ use Rattle.rules.specs.laws.Sets.{size-pow}
 use Rattle.rules.specs.laws.Connected.{joinable-sym, connected-split, connected-single, one_table}
 use Rattle.rules.proofs.laws.Shapes.{single-fits}
 use Rattle.rules.proofs.laws.Rows.{size-count}
-use Rattle.rules.proofs.laws.Choice.{NoLater, Best, best-same}
+use Rattle.rules.specs.laws.Choice.{NoLater, Best, best-same}
 use Rattle.rules.proofs.laws.Bellman.{least-unique, bellman-least, bellman-pick}
 use Rattle.rules.proofs.laws.Ways.{way_of, offered-same}
 use Rattle.rules.proofs.laws.Handed.{JoinablePair, With, Complete, Handed, handed-same, row_first, row_keep, row-take, row_other, row-final}
 use Rattle.rules.proofs.laws.Memo.{one-least}
-use Rattle.rules.proofs.laws.Reference.{better, better-first, better-one, kept}
-use Rattle.rules.proofs.laws.Candidates.{Has, numbered-in, numbered_of}
+use Rattle.rules.specs.laws.Choice.{better, better-first, better-one, kept}
+use Rattle.rules.specs.laws.Candidates.{Has, numbered-in, numbered_of}
 use Rattle.rules.proofs.laws.Complete.{mine, mine-one, met-one, true-joinable, met-joinable, met-sized, InGroup, swap, pair-met}
 use Rattle.rules.proofs.laws.Final.{early-total, reads-small, results-large}
 use Rattle.rules.proofs.laws.Outcome.{best_at, best-least}

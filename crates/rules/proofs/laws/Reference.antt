@@ -1,7 +1,7 @@
 -- A plan that computes, row by row from all splits, proved to be the least and the pick: by it the cases are computed.
-use Rattle.std.specs.Prelude.{◌≡◌, ◌⊎◌, true, false, cond, ◌&&◌, ◌||◌, eqb, ltb, leb}
+use Rattle.std.specs.Prelude.{◌≡◌, ◌⊎◌, true, false, cond, ◌&&◌, eqb, leb}
 use Rattle.std.proofs.Math.Path.{refl, sym, subst}
-use Rattle.std.proofs.Math.Logic.{inl, inr, ⊎_elim}
+use Rattle.std.proofs.Math.Logic.{inl, inr}
 use Rattle.std.proofs.Math.Bool.{Bool}
 use mathlib.Core.List.{List, [], ◌∷◌, ◌++◌, Memᴰ}
 use Prim.Native.Nat.{ℕ, zero, suc, ◌+◌, ◌-◌, ◌≤◌, ◌<◌}
@@ -9,7 +9,7 @@ use Rattle.std.proofs.Math.Nat.{le_refl}
 use Rattle.std.proofs.Math.Decide.{dec_lt, ℕ_discrete}
 use native.Mathlib.Omega.{arith}
 use Rattle.std.specs.Int.Bits.{bit_and}
-use borrow.Author.Tests.{eqb-true, eqb-false, eq-eqb, ltb-true, ltb-false, leb-true, leb-false, lt-leb}
+use borrow.Author.Tests.{eqb-true, eq-eqb, leb-true, leb-false, lt-leb}
 use Rattle.rules.specs.Lists.{is_yes}
 use Rattle.rules.specs.Sets.{size, single, holds, has}
 use Rattle.rules.specs.Query.{Query, IsMethod, table_count, method_count, at}
@@ -21,84 +21,11 @@ use Rattle.rules.specs.laws.Sets.{holds-single, holds-single-only}
 use Rattle.rules.specs.laws.Connected.{connected-single, connected-split, one_table}
 use Rattle.rules.proofs.laws.Shapes.{single-fits}
 use Rattle.rules.specs.laws.Decide.{connected?, between?}
-use Rattle.rules.proofs.laws.Choice.{NoLater, Best, no-later-trans, no-later-refl, best-same, same}
+use Rattle.rules.specs.laws.Choice.{Best, best-same, same, best_of, best_of-best}
 use Rattle.rules.proofs.laws.Bellman.{Offer, bellman-least, bellman-pick}
 use Rattle.rules.proofs.laws.Handed.{among, Handed}
 use Rattle.rules.proofs.laws.Ways.{back_in}
 use Rattle.rules.proofs.laws.Memo.{one-least}
-
--- ---- the order, as a test
-unfoldable pub sooner : Choice → Choice → Bool
-sooner a b = ltb a.cost b.cost || (eqb a.cost b.cost && (ltb a.outer b.outer || (eqb a.outer b.outer && leb a.method b.method)))
-
-unfoldable pub better : Choice → Choice → Choice
-better a b = cond (sooner a b) a b
-
--- what a row keeps of what it holds and a new choice: without an outer set it holds nothing yet
-abbrev pub kept : Choice → Choice → Choice
-kept old new = cond (eqb old.outer 0) new (better old new)
-
-module _ (a b : Choice) where
-  -- the tests, one by one, as one of the two orders
-  pub better-first : NoLater (better a b) a × NoLater (better a b) b
-  unfolding better sooner
-  better-first = costs (true-or-false (ltb a.cost b.cost)) (true-or-false (eqb a.cost b.cost))
-    where
-      R : Bool → Type 0
-      R t = NoLater (cond t a b) a × NoLater (cond t a b) b
-
-      methods : a.cost ≡ b.cost → a.outer ≡ b.outer → (leb a.method b.method ≡ true) ⊎ (leb a.method b.method ≡ false) → R (leb a.method b.method)
-      methods e f (inl l) = rw l (no-later-refl a, record { by-cost = omega arith; by-outer = λ z. omega arith; by-method = λ z y. omega (arith, leb-true a.method b.method l) })
-      methods e f (inr l) = rw l (record { by-cost = omega arith; by-outer = λ z. omega arith; by-method = λ z y. omega (arith, leb-false a.method b.method l) }, no-later-refl b)
-
-      outers : a.cost ≡ b.cost → (ltb a.outer b.outer ≡ true) ⊎ (ltb a.outer b.outer ≡ false) → (eqb a.outer b.outer ≡ true) ⊎ (eqb a.outer b.outer ≡ false)
-          → R (ltb a.outer b.outer || (eqb a.outer b.outer && leb a.method b.method))
-      outers e (inl l) k = rw l (no-later-refl a, record { by-cost = omega arith; by-outer = λ z. omega (arith, ltb-true a.outer b.outer l); by-method = λ z y. absurd (omega (arith, ltb-true a.outer b.outer l)) })
-      outers e (inr l) (inl k) = rw (l, k) (methods e (eqb-true a.outer b.outer k) (true-or-false (leb a.method b.method)))
-      outers e (inr l) (inr k) =
-          let g = ltb-false a.outer b.outer l in
-          let n = eqb-false a.outer b.outer k in
-          rw (l, k) (record { by-cost = omega arith; by-outer = λ z. omega arith; by-method = λ z y. absurd (n (sym y)) }, no-later-refl b)
-
-      costs : (ltb a.cost b.cost ≡ true) ⊎ (ltb a.cost b.cost ≡ false) → (eqb a.cost b.cost ≡ true) ⊎ (eqb a.cost b.cost ≡ false) → R (sooner a b)
-      costs (inl l) k =
-          let h = ltb-true a.cost b.cost l in
-          rw l (no-later-refl a, record { by-cost = omega arith; by-outer = λ z. absurd (omega arith); by-method = λ z y. absurd (omega arith) })
-      costs (inr l) (inl k) = rw (l, k) (outers (eqb-true a.cost b.cost k) (true-or-false (ltb a.outer b.outer)) (true-or-false (eqb a.outer b.outer)))
-      costs (inr l) (inr k) =
-          let g = ltb-false a.cost b.cost l in
-          let n = eqb-false a.cost b.cost k in
-          rw (l, k) (record { by-cost = omega arith; by-outer = λ z. absurd (n (sym z)); by-method = λ z y. absurd (n (sym z)) }, no-later-refl b)
-
-  pub better-one : (better a b ≡ a) ⊎ (better a b ≡ b)
-  unfolding better
-  better-one = ⊎_elim (λ e. inl (rw e)) (λ e. inr (rw e)) (true-or-false (sooner a b))
-
--- the best of a list
-unfoldable pub best_of : Choice → List Choice → Choice
-best_of k [] = k
-best_of k (j ∷ js) = better k (best_of j js)
-
-best_of-in : (k : Choice) (js : List Choice) → Memᴰ (best_of k js) (k ∷ js)
-unfolding best_of
-best_of-in k [] = mathlib.Core.List.Memᴰ.head refl
-best_of-in k (j ∷ js) = go (best_of-in j js) (better-one k (best_of j js))
-  where
-    go : Memᴰ (best_of j js) (j ∷ js) → (better k (best_of j js) ≡ k) ⊎ (better k (best_of j js) ≡ best_of j js) → Memᴰ (better k (best_of j js)) (k ∷ j ∷ js)
-    go ih (inl e) = mathlib.Core.List.Memᴰ.head e
-    go ih (inr e) = mathlib.Core.List.Memᴰ.tail (mathlib.Core.List.Memᴰ.cast e ih)
-
-best_of-first : (k : Choice) (js : List Choice) (i : Choice) → Memᴰ i (k ∷ js) → NoLater (best_of k js) i
-unfolding best_of
-best_of-first k [] i m = rw (mathlib.Core.List.Memᴰ.eq_of_singleton m) (no-later-refl k)
-best_of-first k (j ∷ js) i m = go (best_of-first j js i) (mathlib.Core.List.Memᴰ.cases_cons m)
-  where
-    go : (Memᴰ i (j ∷ js) → NoLater (best_of j js) i) → (i ≡ k) ⊎ Memᴰ i (j ∷ js) → NoLater (better k (best_of j js)) i
-    go ih (inl e) = rw e (better-first k (best_of j js)).0
-    go ih (inr m') = no-later-trans (better-first k (best_of j js)).1 (ih m')
-
-pub best_of-best : (k : Choice) (js : List Choice) → Best (λ i. Memᴰ i (k ∷ js)) (best_of k js)
-best_of-best k js = record { among = best_of-in k js; first = λ i m. best_of-first k js i m }
 
 -- ---- all offers of a set
 module _ (q : Query) (best : ℕ → ℕ) where

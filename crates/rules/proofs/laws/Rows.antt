@@ -10,9 +10,9 @@ use Rattle.rules.specs.Query.{Graph, table_count}
 use Rattle.rules.specs.Connected.{Connected}
 use Rattle.rules.specs.Rows.{Before, before, Ordered, combos, sequences, rows_of, memo}
 use Rattle.rules.specs.laws.Bools.{true-or-false, not-both, and-true, and-true-l, and_true_r, or_cases, or-true-l, or_true_r, yes_true, true-yes}
-use Rattle.rules.proofs.laws.Lists.{keep-in, keep-of, in-row, of_row, Once, once-row}
+use Rattle.rules.specs.laws.Lists.{keep-in, keep-of, in-row, of_row, Once, once-row}
 use Rattle.rules.specs.laws.Sets.{lt-of-holds, size-pos, size-le}
-use Rattle.rules.proofs.laws.Tables.{ascending-less, tables-size, tables-ascending, tables-back, number-back}
+use Rattle.rules.specs.laws.Tables.{ascending-less, tables-size, tables-ascending, tables-back, number-back}
 use Rattle.rules.specs.laws.Decide.{connected?}
 
 -- complete

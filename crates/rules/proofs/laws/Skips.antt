@@ -12,9 +12,9 @@ use Rattle.rules.specs.Query.{Graph, table_count}
 use Rattle.rules.specs.Rows.{rows_of, memo}
 use Rattle.rules.specs.Skips.{row, Skip, skip_from, vectors_from, vectors, skips}
 use Rattle.rules.specs.laws.Bools.{true-or-false}
-use Rattle.rules.proofs.laws.Lists.{at_map, length-map, sum, sum-append}
+use Rattle.rules.specs.laws.Lists.{at_map, length-map, sum, sum-append}
 use Rattle.rules.specs.laws.Sets.{holds-apart}
-use Rattle.rules.proofs.laws.Tables.{tables-size}
+use Rattle.rules.specs.laws.Tables.{tables-size}
 use Rattle.rules.proofs.laws.Rows.{rows-only, below_all}
 
 -- the value that a vector holds is THE LEAST LATER ROW THAT LACKS THE TABLE

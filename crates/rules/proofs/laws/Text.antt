@@ -15,10 +15,10 @@ use Rattle.rules.specs.Answers.{Outcome, Given}
 use Rattle.rules.specs.Reading.{reading}
 use Rattle.rules.specs.Writing.{answer_line, plan_line, refusal_line, join_lines}
 use Rattle.rules.specs.Text.{input_of, text_verdict, PlanText, Lined, Answers, Written}
-use Rattle.rules.proofs.laws.Lists.{in-at}
+use Rattle.rules.specs.laws.Lists.{in-at}
 use Rattle.rules.proofs.laws.Rows.{memo-all}
 use Rattle.rules.proofs.laws.Picked.{PickedTree, picked-exists, picked-least, picked-unique}
-use Rattle.rules.proofs.laws.Refusals.{accepted}
+use Rattle.rules.specs.laws.Refusals.{accepted}
 use Rattle.rules.proofs.laws.Outcome.{outcome-planned}
 use Rattle.rules.proofs.laws.Answers.{hands-unique}
 

@@ -10,8 +10,8 @@ use Rattle.rules.specs.Lists.{keep}
 use Rattle.rules.specs.Sets.{size}
 use Rattle.rules.specs.Trees.{fits}
 use Rattle.rules.specs.Offers.{Pair, Way, along, back, ways, sides, Choice, Priced, Offered}
-use Rattle.rules.proofs.laws.Choice.{Best, Either, best-same}
-use Rattle.rules.proofs.laws.Lists.{keep-in, keep-of}
+use Rattle.rules.specs.laws.Choice.{Best, Either, best-same}
+use Rattle.rules.specs.laws.Lists.{keep-in, keep-of}
 
 module _ (shape : Shape) (p : Pair) where
   pub along-in : fits shape (size p.inner) ≡ true → Memᴰ (along p) (ways shape p)

@@ -4,7 +4,7 @@ use Prim.Native.Nat.{◌-◌, ◌*◌, ◌≤◌}
 use lib.ListN.{length}
 use Rattle.rules.specs.Sets.{size}
 use Rattle.rules.specs.Query.{graph_of}
-use Rattle.rules.proofs.laws.Lists as lists
+use Rattle.rules.specs.laws.Lists as lists
 use Rattle.rows.specs.Sizes.{up_to}
 use Rattle.rows.proofs.tally.all_cells.Given as goal
 

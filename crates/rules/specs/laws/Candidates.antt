@@ -12,7 +12,7 @@ use Rattle.rules.specs.Schedule.{inner_at}
 use Rattle.rules.specs.Candidates.{Candidate, with_row, across, within, driven, candidates_of}
 use Rattle.rules.specs.Shares.{Numbered, numbered}
 use Rattle.rules.specs.laws.Bools.{true-or-false}
-use Rattle.rules.proofs.laws.Lists.{in-row, of_row, Once}
+use Rattle.rules.specs.laws.Lists.{in-row, of_row, Once}
 
 -- ---- complete: each two rows of a driving size and its inner size are met, one way round
 -- X and Y are met, X as the driving set

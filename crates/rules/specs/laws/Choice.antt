@@ -1,5 +1,11 @@
 -- Choices for a memo row in the order of 01's tie rule, and the best of a set of them. The set is a predicate: no list and no order of offering.
-use Rattle.std.specs.Prelude.{◌≡◌, ◌⊎◌, ◌≤◌, ◌<◌}
+use Rattle.std.specs.Prelude.{◌≡◌, ◌⊎◌, true, false, cond, ◌&&◌, ◌||◌, eqb, ltb, leb, ◌≤◌, ◌<◌}
+use Rattle.std.proofs.Math.Path.{refl}
+use Rattle.std.proofs.Math.Logic.{⊎_elim}
+use Rattle.std.proofs.Math.Bool.{Bool}
+use mathlib.Core.List.{List, [], ◌∷◌, ◌++◌, Memᴰ}
+use borrow.Author.Tests.{eqb-true, eqb-false, ltb-true, ltb-false, leb-true, leb-false}
+use Rattle.rules.specs.laws.Bools.{true-or-false}
 use Rattle.std.proofs.Common.{sym, inl, inr, le_antisymm, le_refl, arith}
 use Rattle.std.proofs.Math.Decide.{dec_lt}
 use Rattle.rules.specs.Offers.{Choice}
@@ -91,3 +97,76 @@ best-take {P} {Q} {a} {b} p q le = record { among = inr q.among; first = pick }
     pick : (k : Choice) → P k ⊎ Q k → NoLater b k
     pick k (inl h) = no-later-trans le (p.first k h)
     pick k (inr h) = q.first k h
+
+-- ---- the order, as a test
+unfoldable pub sooner : Choice → Choice → Bool
+sooner a b = ltb a.cost b.cost || (eqb a.cost b.cost && (ltb a.outer b.outer || (eqb a.outer b.outer && leb a.method b.method)))
+
+unfoldable pub better : Choice → Choice → Choice
+better a b = cond (sooner a b) a b
+
+-- what a row keeps of what it holds and a new choice: without an outer set it holds nothing yet
+abbrev pub kept : Choice → Choice → Choice
+kept old new = cond (eqb old.outer 0) new (better old new)
+
+module _ (a b : Choice) where
+  -- the tests, one by one, as one of the two orders
+  pub better-first : NoLater (better a b) a × NoLater (better a b) b
+  unfolding better sooner
+  better-first = costs (true-or-false (ltb a.cost b.cost)) (true-or-false (eqb a.cost b.cost))
+    where
+      R : Bool → Type 0
+      R t = NoLater (cond t a b) a × NoLater (cond t a b) b
+
+      methods : a.cost ≡ b.cost → a.outer ≡ b.outer → (leb a.method b.method ≡ true) ⊎ (leb a.method b.method ≡ false) → R (leb a.method b.method)
+      methods e f (inl l) = rw l (no-later-refl a, record { by-cost = omega arith; by-outer = λ z. omega arith; by-method = λ z y. omega (arith, leb-true a.method b.method l) })
+      methods e f (inr l) = rw l (record { by-cost = omega arith; by-outer = λ z. omega arith; by-method = λ z y. omega (arith, leb-false a.method b.method l) }, no-later-refl b)
+
+      outers : a.cost ≡ b.cost → (ltb a.outer b.outer ≡ true) ⊎ (ltb a.outer b.outer ≡ false) → (eqb a.outer b.outer ≡ true) ⊎ (eqb a.outer b.outer ≡ false)
+          → R (ltb a.outer b.outer || (eqb a.outer b.outer && leb a.method b.method))
+      outers e (inl l) k = rw l (no-later-refl a, record { by-cost = omega arith; by-outer = λ z. omega (arith, ltb-true a.outer b.outer l); by-method = λ z y. absurd (omega (arith, ltb-true a.outer b.outer l)) })
+      outers e (inr l) (inl k) = rw (l, k) (methods e (eqb-true a.outer b.outer k) (true-or-false (leb a.method b.method)))
+      outers e (inr l) (inr k) =
+          let g = ltb-false a.outer b.outer l in
+          let n = eqb-false a.outer b.outer k in
+          rw (l, k) (record { by-cost = omega arith; by-outer = λ z. omega arith; by-method = λ z y. absurd (n (sym y)) }, no-later-refl b)
+
+      costs : (ltb a.cost b.cost ≡ true) ⊎ (ltb a.cost b.cost ≡ false) → (eqb a.cost b.cost ≡ true) ⊎ (eqb a.cost b.cost ≡ false) → R (sooner a b)
+      costs (inl l) k =
+          let h = ltb-true a.cost b.cost l in
+          rw l (no-later-refl a, record { by-cost = omega arith; by-outer = λ z. absurd (omega arith); by-method = λ z y. absurd (omega arith) })
+      costs (inr l) (inl k) = rw (l, k) (outers (eqb-true a.cost b.cost k) (true-or-false (ltb a.outer b.outer)) (true-or-false (eqb a.outer b.outer)))
+      costs (inr l) (inr k) =
+          let g = ltb-false a.cost b.cost l in
+          let n = eqb-false a.cost b.cost k in
+          rw (l, k) (record { by-cost = omega arith; by-outer = λ z. absurd (n (sym z)); by-method = λ z y. absurd (n (sym z)) }, no-later-refl b)
+
+  pub better-one : (better a b ≡ a) ⊎ (better a b ≡ b)
+  unfolding better
+  better-one = ⊎_elim (λ e. inl (rw e)) (λ e. inr (rw e)) (true-or-false (sooner a b))
+
+-- the best of a list
+unfoldable pub best_of : Choice → List Choice → Choice
+best_of k [] = k
+best_of k (j ∷ js) = better k (best_of j js)
+
+best_of-in : (k : Choice) (js : List Choice) → Memᴰ (best_of k js) (k ∷ js)
+unfolding best_of
+best_of-in k [] = mathlib.Core.List.Memᴰ.head refl
+best_of-in k (j ∷ js) = go (best_of-in j js) (better-one k (best_of j js))
+  where
+    go : Memᴰ (best_of j js) (j ∷ js) → (better k (best_of j js) ≡ k) ⊎ (better k (best_of j js) ≡ best_of j js) → Memᴰ (better k (best_of j js)) (k ∷ j ∷ js)
+    go ih (inl e) = mathlib.Core.List.Memᴰ.head e
+    go ih (inr e) = mathlib.Core.List.Memᴰ.tail (mathlib.Core.List.Memᴰ.cast e ih)
+
+best_of-first : (k : Choice) (js : List Choice) (i : Choice) → Memᴰ i (k ∷ js) → NoLater (best_of k js) i
+unfolding best_of
+best_of-first k [] i m = rw (mathlib.Core.List.Memᴰ.eq_of_singleton m) (no-later-refl k)
+best_of-first k (j ∷ js) i m = go (best_of-first j js i) (mathlib.Core.List.Memᴰ.cases_cons m)
+  where
+    go : (Memᴰ i (j ∷ js) → NoLater (best_of j js) i) → (i ≡ k) ⊎ Memᴰ i (j ∷ js) → NoLater (better k (best_of j js)) i
+    go ih (inl e) = rw e (better-first k (best_of j js)).0
+    go ih (inr m') = no-later-trans (better-first k (best_of j js)).1 (ih m')
+
+pub best_of-best : (k : Choice) (js : List Choice) → Best (λ i. Memᴰ i (k ∷ js)) (best_of k js)
+best_of-best k js = record { among = best_of-in k js; first = λ i m. best_of-first k js i m }

@@ -9,9 +9,9 @@ use Rattle.std.proofs.Math.ListN.{length}
 use Rattle.rules.specs.Lists.{keep}
 use Rattle.rules.specs.Turns.{Hand, Run, only}
 use Rattle.rules.specs.laws.Bools.{true-or-false}
-use Rattle.rules.proofs.laws.Lists.{keep-in, keep-of, Once}
-use Rattle.rules.proofs.laws.Shares.{One}
-use Rattle.rules.proofs.laws.Turns.{run-queues, sum_to, sum_bump, sum_same, sum-zero, Entries, Below, run-below}
+use Rattle.rules.specs.laws.Lists.{keep-in, keep-of, Once}
+use Rattle.rules.specs.laws.Shares.{One}
+use Rattle.rules.specs.laws.Turns.{run-queues, sum_to, sum_bump, sum_same, sum-zero, Entries, Below, run-below}
 
 module _ {C : Type 0} where
   -- worker w handed c
