@@ -150,7 +150,7 @@ pub fn find(
     ahead: usize,
 ) -> Place
     requires good_graph { GoodGraph (graph_of rows.now left.now right.now divisors.now) }
-    requires ground { Ground (graph_of rows.now left.now right.now divisors.now) sets.now skips.now starts.now cells.now }
+    requires footing { Ground (graph_of rows.now left.now right.now divisors.now) sets.now skips.now starts.now cells.now }
     requires share_of { ShareOf (graph_of rows.now left.now right.now divisors.now) group share }
     requires row_from { RowFrom (graph_of rows.now left.now right.now divisors.now) group size row ahead }
     ensures { NextFrom (graph_of rows.now left.now right.now divisors.now) group share ahead result }
@@ -217,7 +217,7 @@ pub fn first_pair(
     share: Share,
 ) -> Place
     requires good_graph { GoodGraph (graph_of rows.now left.now right.now divisors.now) }
-    requires ground { Ground (graph_of rows.now left.now right.now divisors.now) sets.now skips.now starts.now cells.now }
+    requires footing { Ground (graph_of rows.now left.now right.now divisors.now) sets.now skips.now starts.now cells.now }
     requires share_of { ShareOf (graph_of rows.now left.now right.now divisors.now) group share × Fit (graph_of rows.now left.now right.now divisors.now) group }
     ensures { NextFrom (graph_of rows.now left.now right.now divisors.now) group share 0 result }
 {
@@ -241,7 +241,7 @@ pub fn next_pair(
     place: Place,
 ) -> Place
     requires good_graph { GoodGraph (graph_of rows.now left.now right.now divisors.now) }
-    requires ground { Ground (graph_of rows.now left.now right.now divisors.now) sets.now skips.now starts.now cells.now }
+    requires footing { Ground (graph_of rows.now left.now right.now divisors.now) sets.now skips.now starts.now cells.now }
     requires share_of { ShareOf (graph_of rows.now left.now right.now divisors.now) group share × Fit (graph_of rows.now left.now right.now divisors.now) group }
     requires at { At (graph_of rows.now left.now right.now divisors.now) group place × (own_at (graph_of rows.now left.now right.now divisors.now) group share place.number ≡ true) }
     ensures { NextFrom (graph_of rows.now left.now right.now divisors.now) group share (place.number + 1) result }

@@ -223,7 +223,7 @@ module _ (q : Query) (workers scheme : ℕ) (turns log : List ℕ) (old : Lent) 
       record {
         prepared = record {
           sound = sound;
-          ground = ground-of q.graph old.sets old.skips old_starts old_cell_starts room.rows room.cells a b (ap (λ (x : Lent). x.sets) is) (ap (λ (x : Lent). x.skips) is) e f;
+          footing = ground-of q.graph old.sets old.skips old_starts old_cell_starts room.rows room.cells a b (ap (λ (x : Lent). x.sets) is) (ap (λ (x : Lent). x.skips) is) e f;
           estimated = estimated-of q.graph old.estimates (omega (arith, room.rows, one.estimates)) (ap (λ (x : Lent). x.estimates) is);
         };
         work = record { sound = sound; some-worker = crew.some-worker; few-workers = crew.few-workers; turns-known = turns-of q workers scheme turns lengths log passed; serves = by-size q.shape (table_count q.graph) };

@@ -319,7 +319,7 @@ module _ {q : Query} {crew : Crew} {turns sets estimates cells : List ℕ} {c : 
   -- what no turn changes
   pub prepared : (old_starts old_cell_starts : List ℕ) {starts₁ cell_starts₁ : List ℕ} → table_count q.graph + 2 ≤ length old_starts → table_count q.graph + 2 ≤ length old_cell_starts
       → starts₁ ≡ written old_starts 0 (starts q.graph) → cell_starts₁ ≡ written old_cell_starts 0 (cell_starts q.graph) → Prepared q sets estimates cells starts₁ cell_starts₁
-  prepared old_starts old_cell_starts a b h i = record { sound = z.sound; ground = ground-at q.graph old_starts old_cell_starts z.sets-laid z.cells-laid a b h i; estimated = z.estimated }
+  prepared old_starts old_cell_starts a b h i = record { sound = z.sound; footing = ground-at q.graph old_starts old_cell_starts z.sets-laid z.cells-laid a b h i; estimated = z.estimated }
 
 -- a table of nobodies
 pub nobodies : {v : Worker} → v ≡ nobody → (length (replicate max_workers v) ≡ max_workers) × ((w : ℕ) → worker_at (replicate max_workers v) w ≡ nobody)

@@ -8,7 +8,6 @@ use Rattle.std.proofs.Math.Decide.{ℕ_discrete}
 use Rattle.std.proofs.lemmas.List.{set-get_or}
 use Rattle.rules.specs.declared.Crew.{Crew}
 use Rattle.rules.specs.Lists.{keep}
-use Rattle.rules.specs.Sets.{size}
 use Rattle.rules.specs.declared.Group.{Group}
 use Rattle.rules.specs.Query.{Graph}
 use Rattle.rules.specs.Shares.{met}

@@ -67,7 +67,7 @@ pub record Board (g : Graph) (fixed outer inner result sets estimates cells star
   pub graph : GoodGraph g
   pub fit : Fit g group
   pub methods : Methods fixed outer inner result
-  pub ground : Ground g sets cells starts cell_starts
+  pub footing : Ground g sets cells starts cell_starts
   pub estimated : take (length (memo g)) estimates ≡ map (estimate g) (memo g)
   pub reach : Reach g c
   pub below : (r : ℕ) → r < start_of g (top_of group + 1) → get_or c.costs r 0 < cost_bound

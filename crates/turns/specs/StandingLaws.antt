@@ -3,7 +3,7 @@ use Rattle.std.specs.Prelude.{◌≡◌, ◌⊎◌, cond, ℕ, suc, ◌+◌, ◌
 use Rattle.std.proofs.Math.Path.{refl, ap}
 use Rattle.std.proofs.Common.{sym, ◌∙◌, inl, inr, ⊎_elim, get_or-set_same, get_or-set_other}
 use Rattle.std.proofs.Math.Bool.{true, false}
-use mathlib.Core.List.{List, ◌∷◌, Memᴰ}
+use mathlib.Core.List.{List, [], ◌∷◌, Memᴰ}
 use Rattle.std.proofs.Math.Decide.{dec_lt, ℕ_discrete}
 use native.Mathlib.Omega.{arith}
 use Rattle.std.proofs.Math.ListN.{length, get_or}
@@ -12,11 +12,10 @@ use Rattle.rules.specs.declared.Group.{Group}
 use Rattle.rules.specs.Offers.{Pair, union, ways, sides, Choice, Offers}
 use Rattle.rules.specs.Limits.{max_workers}
 use Rattle.rules.specs.Schedule.{inner_at, Schedule}
-use Rattle.rules.specs.Sets.{size}
 use Rattle.rules.specs.Query.{Graph, Query, table_count}
 use Rattle.rules.specs.Trees.{price}
 use Rattle.rules.specs.Rows.{memo}
-use Rattle.rules.specs.Candidates.{Candidate, candidates, joinable}
+use Rattle.rules.specs.Candidates.{Candidate, candidates}
 use Rattle.rules.specs.Shares.{Numbered, numbered, met}
 use Rattle.rules.specs.Log.{sets_of, pair_of}
 use Rattle.rules.specs.laws.Bools.{true-or-false, not-both}
@@ -63,6 +62,7 @@ module _ (g : Graph) (c : Columns) (k : Choice) (r : ℕ) where
 -- ---- candidates by their numbers
 numbered-get : (n : ℕ) (cs : List Candidate) (x : Numbered) → Memᴰ x (numbered n cs) → get_or (numbered n cs) (x.number - n) no_candidate ≡ x
 unfolding numbered
+numbered-get n [] x x3 = elim x3 [ ]
 numbered-get n (c ∷ cs) x (Memᴰ.head e) = let f : x.number - n ≡ 0 = omega (arith, ap (λ (y : Numbered). y.number) e) in rw f (sym e)
 numbered-get n (c ∷ cs) x (Memᴰ.tail m) = let f : x.number - n ≡ suc (x.number - suc n) = omega (arith, (numbered_of (suc n) cs x m).1) in rw f (numbered-get (suc n) cs x m)
 

@@ -251,7 +251,7 @@ ground-of g old_sets old_cells old_starts old_cell_starts a b c d e f h i = grou
 -- a checked query whose memo is laid out: what no turn changes
 pub record Prepared (q : Query) (sets estimates cells starts cell_starts : List ℕ) : Type 0 where
   pub sound : Sound q
-  pub ground : Ground q.graph sets cells starts cell_starts
+  pub footing : Ground q.graph sets cells starts cell_starts
   pub estimated : take (length (memo q.graph)) estimates ≡ map (estimate q.graph) (memo q.graph)
 
 -- estimates as laying out leaves them
@@ -291,7 +291,7 @@ board-of {q} {group = group} {c = c} p fit top reach final = record {
   graph = p.sound.graph;
   fit = fit;
   methods = methods-of q p.sound;
-  ground = p.ground;
+  footing = p.footing;
   estimated = p.estimated;
   reach = reach;
   below = below;

@@ -48,7 +48,7 @@ use Rattle.turns.specs.StandingLaws.{row_at, at-smaller}
 module _ {g : Graph} {fixed outer inner result sets estimates cells starts cell_starts : List ℕ} {group : Group} {c : Columns} (b : Board g fixed outer inner result sets estimates cells starts cell_starts group c) where
   -- the rows of a size, and their estimates
   pub set_at : (r : ℕ) → r < length (memo g) → (r < length sets) × (get_or sets r 0 ≡ get_or (memo g) r 0)
-  set_at r l = ground-set g sets cells starts cell_starts b.ground r l
+  set_at r l = ground-set g sets cells starts cell_starts b.footing r l
 
   pub estimate-at : (r : ℕ) → r < length (memo g) → (r < length estimates) × (get_or estimates r 0 ≡ estimate g (get_or (memo g) r 0))
   estimate-at r l =
@@ -60,19 +60,19 @@ module _ {g : Graph} {fixed outer inner result sets estimates cells starts cell_
   -- where the rows of size z begin and end
   module _ (z : ℕ) (one : 1 ≤ z) (size-known : z ≤ table_count g) where
     from_is : get_or starts z 0 ≡ start_of g z
-    from_is = b.ground.starts-known z one (omega arith)
+    from_is = b.footing.starts-known z one (omega arith)
 
     to_is : get_or starts (z + 1) 0 ≡ start_of g (z + 1)
-    to_is = b.ground.starts-known (z + 1) (omega arith) (omega arith)
+    to_is = b.footing.starts-known (z + 1) (omega arith) (omega arith)
 
     part : slice (get_or starts z 0) (get_or starts (z + 1) 0) sets ≡ rows_of g z
     part =
         let e : z - 1 + 1 ≡ z = omega arith in
         let f : z + 1 - 1 ≡ z - 1 + 1 = omega arith in
-        rw e at (rows-part g (z - 1) sets {from = get_or starts z 0} {to = get_or starts (z + 1) 0} (omega arith) b.ground.sets-laid from_is (to_is ∙ ap (λ (k : ℕ). length (up_to g k)) f))
+        rw e at (rows-part g (z - 1) sets {from = get_or starts z 0} {to = get_or starts (z + 1) 0} (omega arith) b.footing.sets-laid from_is (to_is ∙ ap (λ (k : ℕ). length (up_to g k)) f))
 
     ends : (get_or starts z 0 ≤ get_or starts (z + 1) 0) × (get_or starts (z + 1) 0 ≤ length sets)
-    ends = (omega (arith, from_is, to_is, start-mono g z (z + 1) (omega arith)), omega (arith, to_is, start-memo g (z + 1) (omega arith), length-take (length (memo g)) sets, ap length b.ground.sets-laid))
+    ends = (omega (arith, from_is, to_is, start-mono g z (z + 1) (omega arith)), omega (arith, to_is, start-memo g (z + 1) (omega arith), length-take (length (memo g)) sets, ap length b.footing.sets-laid))
 
   row-size : (k p : ℕ) → 1 ≤ k → start_of g k ≤ p → p < start_of g (k + 1) → size (get_or (memo g) p 0) ≡ k
   row-size k p one l u = rw (memo-row g k p one l u) (rows-only g k (get_or (rows_of g k) (p - start_of g k) 0) (at_in 0 (rows_of g k) (p - start_of g k) (in_size g k p one l u))).1

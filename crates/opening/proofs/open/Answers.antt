@@ -29,7 +29,7 @@ worker_at-old-requires c =
 pub first_pair-requires : goal.first_pair-requires
 first_pair-requires c = let g = graph_of c.args.rows.now c.args.left.now c.args.right.now c.args.divisors.now in
     let h = share-is g c.args.group c.args.crew _ (c.count_candidates-total.ensures ∙ count-met g c.args.sets.now c.args.skips.now c.args.starts.now c.args.cells.now c.requires.good_graph.1 c.args.group c.requires.fit.0) c.share_of-share.ensures in
-    record { good_graph = c.requires.good_graph.0; ground = c.requires.good_graph.1; share_of = (share-ready g c.args.group c.args.crew _ c.requires.fit.1 c.requires.fit.2 (omega arith) h, c.requires.fit.0) }
+    record { good_graph = c.requires.good_graph.0; footing = c.requires.good_graph.1; share_of = (share-ready g c.args.group c.args.crew _ c.requires.fit.1 c.requires.fit.2 (omega arith) h, c.requires.fit.0) }
 
 pub with_worker-opened-requires : goal.with_worker-opened-requires
 with_worker-opened-requires c =

@@ -31,7 +31,7 @@ by-size-requires c κs = omega (arith, c.loop-test.true, c.before.before.before.
 open-requires : tie.Need-open-requires invariant-loop decreases-loop
 open-requires c κs =
     let z = c.before.before.before.before.before.before.before.before.before.before.before.before.before.before.before.before.before.before.before.before.before.before.before.requires in
-    ((z.prepared.sound.graph, z.prepared.ground), (group-fit z.work c.before.before.before.loop.invariant.0 (omega (arith, c.before.before.loop-test.true)) c.before.by-size.ensures, z.work.some-worker, z.work.few-workers))
+    ((z.prepared.sound.graph, z.prepared.footing), (group-fit z.work c.before.before.before.loop.invariant.0 (omega (arith, c.before.before.loop-test.true)) c.before.by-size.ensures, z.work.some-worker, z.work.few-workers))
 
 add-print-size : tie.Need-overflow-add-print-size invariant-loop decreases-loop
 add-print-size c = omega (arith, c.before.before.before.loop-test.true, c.before.before.before.before.before.before.before.before.before.before.before.before.before.before.before.before.before.before.before.before.before.before.before.before.requires.prepared.sound.graph.few-tables)

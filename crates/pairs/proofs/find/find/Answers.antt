@@ -21,7 +21,7 @@ pub offset_bounds-starts-wide : goal.offset_bounds-starts-wide
 offset_bounds-starts-wide c = inner-fits c.requires.good_graph c.find.invariant.1 c.find-test.true c.inner_at-wide.ensures
 
 pub bounds-starts-wide : goal.bounds-starts-wide
-bounds-starts-wide c = inner-in c.requires.good_graph c.find.invariant.1 c.find-test.true c.inner_at-wide.ensures c.requires.ground.starts-long
+bounds-starts-wide c = inner-in c.requires.good_graph c.find.invariant.1 c.find-test.true c.inner_at-wide.ensures c.requires.footing.starts-long
 
 pub overflow_add-end : goal.overflow_add-end
 overflow_add-end c = end_fits c.requires.good_graph c.find.invariant.1 c.find-test.true c.inner_at-wide.ensures
@@ -30,13 +30,13 @@ pub offset_bounds-starts-wide-in-find : goal.offset_bounds-starts-wide-in-find
 offset_bounds-starts-wide-in-find c = end-cell-fits c.requires.good_graph c.find.invariant.1 c.find-test.true c.inner_at-wide.ensures
 
 pub bounds-starts-wide-in-find : goal.bounds-starts-wide-in-find
-bounds-starts-wide-in-find c = end-in c.requires.good_graph c.find.invariant.1 c.find-test.true c.inner_at-wide.ensures c.requires.ground.starts-long
+bounds-starts-wide-in-find c = end-in c.requires.good_graph c.find.invariant.1 c.find-test.true c.inner_at-wide.ensures c.requires.footing.starts-long
 
 pub offset_bounds-starts-d : goal.offset_bounds-starts-d
 offset_bounds-starts-d c = size_fits c.requires.good_graph c.find.invariant.1 c.find-test.true
 
 pub bounds-starts-d : goal.bounds-starts-d
-bounds-starts-d c = size_in c.requires.good_graph c.find.invariant.1 c.find-test.true c.requires.ground.starts-long
+bounds-starts-d c = size_in c.requires.good_graph c.find.invariant.1 c.find-test.true c.requires.footing.starts-long
 
 pub overflow_add-rows_to : goal.overflow_add-rows_to
 overflow_add-rows_to c = next-size-fits c.requires.good_graph c.find.invariant.1 c.find-test.true
@@ -45,41 +45,41 @@ pub offset_bounds-starts-d-in-find : goal.offset_bounds-starts-d-in-find
 offset_bounds-starts-d-in-find c = next-cell-fits c.requires.good_graph c.find.invariant.1 c.find-test.true
 
 pub bounds-starts-d-in-find : goal.bounds-starts-d-in-find
-bounds-starts-d-in-find c = next-size-in c.requires.good_graph c.find.invariant.1 c.find-test.true c.requires.ground.starts-long
+bounds-starts-d-in-find c = next-size-in c.requires.good_graph c.find.invariant.1 c.find-test.true c.requires.footing.starts-long
 
 pub offset_bounds-cells-wide : goal.offset_bounds-cells-wide
 offset_bounds-cells-wide c = inner-fits c.requires.good_graph c.find.invariant.1 c.find-test.true c.inner_at-wide.ensures
 
 pub bounds-cells-wide : goal.bounds-cells-wide
-bounds-cells-wide c = inner-in c.requires.good_graph c.find.invariant.1 c.find-test.true c.inner_at-wide.ensures c.requires.ground.cells-long
+bounds-cells-wide c = inner-in c.requires.good_graph c.find.invariant.1 c.find-test.true c.inner_at-wide.ensures c.requires.footing.cells-long
 
 pub loop-i-init : goal.loop-i-init
 loop-i-init c =
     let g = graph_of c.args.rows.now c.args.left.now c.args.right.now c.args.divisors.now in
     let f = c.find in
-    (sized_of g c.args.sets.now c.args.skips.now c.args.starts.now c.args.cells.now c.requires.ground c.requires.good_graph c.args.group c.args.share c.requires.share_of f.d f.i f.number _ f.invariant.1 (drives-at f.invariant.1 c.find-test.true) c.inner_at-wide.ensures, f.invariant.0, f.invariant.1, f.invariant.2)
+    (sized_of g c.args.sets.now c.args.skips.now c.args.starts.now c.args.cells.now c.requires.footing c.requires.good_graph c.args.group c.args.share c.requires.share_of f.d f.i f.number _ f.invariant.1 (drives-at f.invariant.1 c.find-test.true) c.inner_at-wide.ensures, f.invariant.0, f.invariant.1, f.invariant.2)
 
 pub offset_bounds-sets-i : goal.offset_bounds-sets-i
 offset_bounds-sets-i c = cell-fits c.loop-i-test.true (let g = graph_of c.args.rows.now c.args.left.now c.args.right.now c.args.divisors.now in
     let f = c.find in
     let l = c.loop-i in
-    few-all g c.args.sets.now c.args.skips.now c.args.starts.now c.args.cells.now c.requires.ground c.requires.good_graph c.args.group c.args.share c.requires.share_of f.d l.i l.number _ _ _ _ _ _ l.invariant.2 l.invariant.0 c.loop-i-test.true).2
+    few-all g c.args.sets.now c.args.skips.now c.args.starts.now c.args.cells.now c.requires.footing c.requires.good_graph c.args.group c.args.share c.requires.share_of f.d l.i l.number _ _ _ _ _ _ l.invariant.2 l.invariant.0 c.loop-i-test.true).2
 
 pub bounds-sets-i : goal.bounds-sets-i
 bounds-sets-i c =
     let g = graph_of c.args.rows.now c.args.left.now c.args.right.now c.args.divisors.now in
     let f = c.find in
     let l = c.loop-i in
-    sets-inside g c.args.sets.now c.args.skips.now c.args.starts.now c.args.cells.now c.requires.ground c.requires.good_graph c.args.group c.args.share c.requires.share_of f.d l.i l.number _ _ _ _ _ _ l.invariant.2 l.invariant.0 c.loop-i-test.true
+    sets-inside g c.args.sets.now c.args.skips.now c.args.starts.now c.args.cells.now c.requires.footing c.requires.good_graph c.args.group c.args.share c.requires.share_of f.d l.i l.number _ _ _ _ _ _ l.invariant.2 l.invariant.0 c.loop-i-test.true
 
 pub first_of-first-requires : goal.first_of-first-requires
 first_of-first-requires c =
     let p = c.requires in
     let l = c.loop-i in
-    first-ready p.good_graph l.invariant.2 l.invariant.0.driven.to_last c.inner_at-wide.ensures p.ground.starts-long (row-few refl c.loop-i-test.true (let g = graph_of c.args.rows.now c.args.left.now c.args.right.now c.args.divisors.now in
+    first-ready p.good_graph l.invariant.2 l.invariant.0.driven.to_last c.inner_at-wide.ensures p.footing.starts-long (row-few refl c.loop-i-test.true (let g = graph_of c.args.rows.now c.args.left.now c.args.right.now c.args.divisors.now in
     let f = c.find in
     let l = c.loop-i in
-    few-all g c.args.sets.now c.args.skips.now c.args.starts.now c.args.cells.now c.requires.ground c.requires.good_graph c.args.group c.args.share c.requires.share_of f.d l.i l.number _ _ _ _ _ _ l.invariant.2 l.invariant.0 c.loop-i-test.true).2)
+    few-all g c.args.sets.now c.args.skips.now c.args.starts.now c.args.cells.now c.requires.footing c.requires.good_graph c.args.group c.args.share c.requires.share_of f.d l.i l.number _ _ _ _ _ _ l.invariant.2 l.invariant.0 c.loop-i-test.true).2)
 
 pub overflow_sub-rows_to : goal.overflow_sub-rows_to
 overflow_sub-rows_to c =
@@ -99,11 +99,11 @@ span_of-own-requires c =
     let few = (let g = graph_of c.args.rows.now c.args.left.now c.args.right.now c.args.divisors.now in
     let f = c.find in
     let l = c.loop-i in
-    few-all g c.args.sets.now c.args.skips.now c.args.starts.now c.args.cells.now c.requires.ground c.requires.good_graph c.args.group c.args.share c.requires.share_of f.d l.i l.number _ _ _ _ _ _ l.invariant.2 l.invariant.0 c.loop-i-test.true) in (
+    few-all g c.args.sets.now c.args.skips.now c.args.starts.now c.args.cells.now c.requires.footing c.requires.good_graph c.args.group c.args.share c.requires.share_of f.d l.i l.number _ _ _ _ _ _ l.invariant.2 l.invariant.0 c.loop-i-test.true) in (
       share-fits g c.args.group c.args.share c.requires.share_of c.requires.good_graph l.invariant.2.fit,
       few.0,
       part-few _ few.2,
-      first-le-end g c.args.sets.now c.args.skips.now c.args.starts.now c.args.cells.now c.requires.ground c.requires.good_graph c.args.group c.args.share c.requires.share_of f.d l.i l.number _ _ _ _ _ _ l.invariant.2 l.invariant.0 c.loop-i-test.true c.first_of-first.result c.first_of-first.ensures,
+      first-le-end g c.args.sets.now c.args.skips.now c.args.starts.now c.args.cells.now c.requires.footing c.requires.good_graph c.args.group c.args.share c.requires.share_of f.d l.i l.number _ _ _ _ _ _ l.invariant.2 l.invariant.0 c.loop-i-test.true c.first_of-first.result c.first_of-first.ensures,
       few.1,
     )
 
@@ -112,7 +112,7 @@ loop-j-init c =
     let g = graph_of c.args.rows.now c.args.left.now c.args.right.now c.args.divisors.now in
     let f = c.find in
     let l = c.loop-i in (
-      rowed-of g c.args.sets.now c.args.skips.now c.args.starts.now c.args.cells.now c.requires.ground c.requires.good_graph c.args.group c.args.share c.requires.share_of f.d l.i l.number _ _ _ _ _ _ l.invariant.2 l.invariant.0 c.loop-i-test.true c.first_of-first.result c.first_of-first.ensures c.span_of-own.result c.span_of-own.ensures,
+      rowed-of g c.args.sets.now c.args.skips.now c.args.starts.now c.args.cells.now c.requires.footing c.requires.good_graph c.args.group c.args.share c.requires.share_of f.d l.i l.number _ _ _ _ _ _ l.invariant.2 l.invariant.0 c.loop-i-test.true c.first_of-first.result c.first_of-first.ensures c.span_of-own.result c.span_of-own.ensures,
       walked_none _ _ _ _,
       l.invariant.1,
       l.invariant.3,
@@ -151,13 +151,13 @@ pub overflow_add-number : goal.overflow_add-number
 overflow_add-number c =
     let g = graph_of c.args.rows.now c.args.left.now c.args.right.now c.args.divisors.now in
     let m = c.loop-j in
-    few-fit (rowed-few g c.args.sets.now c.args.skips.now c.args.starts.now c.args.cells.now c.requires.ground c.requires.good_graph c.args.group c.args.share c.requires.share_of _ _ _ _ _ _ _ _ _ m.invariant.0 _ m.invariant.1 c.loop-j-test.false)
+    few-fit (rowed-few g c.args.sets.now c.args.skips.now c.args.starts.now c.args.cells.now c.requires.footing c.requires.good_graph c.args.group c.args.share c.requires.share_of _ _ _ _ _ _ _ _ _ m.invariant.0 _ m.invariant.1 c.loop-j-test.false)
 
 pub overflow_add-i : goal.overflow_add-i
 overflow_add-i c = row_fits c.loop-i-test.true (let g = graph_of c.args.rows.now c.args.left.now c.args.right.now c.args.divisors.now in
     let f = c.find in
     let l = c.loop-i in
-    few-all g c.args.sets.now c.args.skips.now c.args.starts.now c.args.cells.now c.requires.ground c.requires.good_graph c.args.group c.args.share c.requires.share_of f.d l.i l.number _ _ _ _ _ _ l.invariant.2 l.invariant.0 c.loop-i-test.true).2
+    few-all g c.args.sets.now c.args.skips.now c.args.starts.now c.args.cells.now c.requires.footing c.requires.good_graph c.args.group c.args.share c.requires.share_of f.d l.i l.number _ _ _ _ _ _ l.invariant.2 l.invariant.0 c.loop-i-test.true).2
 
 pub loop-i-smaller : goal.loop-i-smaller
 loop-i-smaller c = less-row c.loop-i-test.true
@@ -167,7 +167,7 @@ loop-i-preserved c =
     let p = c.requires in
     let l = c.loop-i in
     let m = c.loop-j in
-    let r = row_done p.good_graph p.ground p.share_of m.invariant.0 m.invariant.1 l.invariant.1 l.invariant.3 c.loop-j-test.false in
+    let r = row_done p.good_graph p.footing p.share_of m.invariant.0 m.invariant.1 l.invariant.1 l.invariant.3 c.loop-j-test.false in
     (l.invariant.0, r.0, r.1, r.2)
 
 pub overflow_add-d : goal.overflow_add-d
@@ -181,13 +181,13 @@ find-preserved c =
     let g = graph_of c.args.rows.now c.args.left.now c.args.right.now c.args.divisors.now in
     let f = c.find in
     let l = c.loop-i in
-    (l.invariant.1, size-next g c.args.sets.now c.args.skips.now c.args.starts.now c.args.cells.now c.requires.ground c.requires.good_graph c.args.group c.args.share c.requires.share_of f.d l.i l.number l.invariant.2 l.invariant.0.driven (rows-done l.invariant.0 c.loop-i-test.false), l.invariant.3)
+    (l.invariant.1, size-next g c.args.sets.now c.args.skips.now c.args.starts.now c.args.cells.now c.requires.footing c.requires.good_graph c.args.group c.args.share c.requires.share_of f.d l.i l.number l.invariant.2 l.invariant.0.driven (rows-done l.invariant.0 c.loop-i-test.false), l.invariant.3)
 
 pub returns-then-last-d : goal.returns-then-last-d
 returns-then-last-d c =
     let g = graph_of c.args.rows.now c.args.left.now c.args.right.now c.args.divisors.now in
     let f = c.find in
-    rw c.nowhere.ensures (none_left g c.args.sets.now c.args.skips.now c.args.starts.now c.args.cells.now c.requires.ground c.requires.good_graph c.args.group c.args.share c.requires.share_of f.d f.i f.number c.args.ahead f.invariant.1 c.if-last-d.true f.invariant.0 f.invariant.2)
+    rw c.nowhere.ensures (none_left g c.args.sets.now c.args.skips.now c.args.starts.now c.args.cells.now c.requires.footing c.requires.good_graph c.args.group c.args.share c.requires.share_of f.d f.i f.number c.args.ahead f.invariant.1 c.if-last-d.true f.invariant.0 f.invariant.2)
 
 pub inner_at-wide-requires-2 : goal.inner_at-wide-requires-2
 inner_at-wide-requires-2 c = inner-ready c.find.invariant.1 c.if-last-d.false
@@ -196,21 +196,21 @@ pub first_of-requires : goal.first_of-requires
 first_of-requires c =
     let g = graph_of c.args.rows.now c.args.left.now c.args.right.now c.args.divisors.now in
     let f = c.find in
-    elim c.find-test.branch [ then-find-test+then-loop-i-test+then-loop-j-test+then-joinable w ↦ first-ready c.requires.good_graph f.invariant.1 c.if-last-d.false c.inner_at-wide-2.ensures c.requires.ground.starts-long (row-few w.i-is w.loop-i-test.true (few-all g c.args.sets.now c.args.skips.now c.args.starts.now c.args.cells.now c.requires.ground c.requires.good_graph c.args.group c.args.share c.requires.share_of f.d w.loop-i.i w.loop-i.number _ _ _ _ _ _ w.loop-i.invariant.2 w.loop-i.invariant.0 w.loop-i-test.true).2) | else-find-test w ↦ absurd (not-past c.if-last-d.false w.find-test.false) ]
+    elim c.find-test.branch [ then-find-test+then-loop-i-test+then-loop-j-test+then-joinable w ↦ first-ready c.requires.good_graph f.invariant.1 c.if-last-d.false c.inner_at-wide-2.ensures c.requires.footing.starts-long (row-few w.i-is w.loop-i-test.true (few-all g c.args.sets.now c.args.skips.now c.args.starts.now c.args.cells.now c.requires.footing c.requires.good_graph c.args.group c.args.share c.requires.share_of f.d w.loop-i.i w.loop-i.number _ _ _ _ _ _ w.loop-i.invariant.2 w.loop-i.invariant.0 w.loop-i-test.true).2) | else-find-test w ↦ absurd (not-past c.if-last-d.false w.find-test.false) ]
 
 pub overflow_sub-result : goal.overflow_sub-result
 overflow_sub-result c =
     let g = graph_of c.args.rows.now c.args.left.now c.args.right.now c.args.divisors.now in
     let f = c.find in
-    elim c.find-test.branch [ then-find-test+then-loop-i-test+then-loop-j-test+then-joinable w ↦ let e : c.first_of.result ≡ w.first_of-first.result = c.first_of.ensures ∙ ap (λ v. first_of c.args.starts.now v f.d _) (c.inner_at-wide-2.ensures ∙ sym w.inner_at-wide.ensures) ∙ ap (first_of c.args.starts.now w.inner_at-wide.result f.d) w.i-is ∙ sym w.first_of-first.ensures in let n = rowed-place g c.args.sets.now c.args.skips.now c.args.starts.now c.args.cells.now c.requires.ground c.requires.good_graph c.args.group c.args.share c.requires.share_of _ _ _ _ _ _ _ _ _ w.loop-j.invariant.0 w.loop-j.j w.loop-j.invariant.1 w.loop-j-test.true in le_same e w.j-is n.0 | else-find-test w ↦ absurd (not-past c.if-last-d.false w.find-test.false) ]
+    elim c.find-test.branch [ then-find-test+then-loop-i-test+then-loop-j-test+then-joinable w ↦ let e : c.first_of.result ≡ w.first_of-first.result = c.first_of.ensures ∙ ap (λ v. first_of c.args.starts.now v f.d _) (c.inner_at-wide-2.ensures ∙ sym w.inner_at-wide.ensures) ∙ ap (first_of c.args.starts.now w.inner_at-wide.result f.d) w.i-is ∙ sym w.first_of-first.ensures in let n = rowed-place g c.args.sets.now c.args.skips.now c.args.starts.now c.args.cells.now c.requires.footing c.requires.good_graph c.args.group c.args.share c.requires.share_of _ _ _ _ _ _ _ _ _ w.loop-j.invariant.0 w.loop-j.j w.loop-j.invariant.1 w.loop-j-test.true in le_same e w.j-is n.0 | else-find-test w ↦ absurd (not-past c.if-last-d.false w.find-test.false) ]
 
 pub overflow_add-result : goal.overflow_add-result
 overflow_add-result c =
     let g = graph_of c.args.rows.now c.args.left.now c.args.right.now c.args.divisors.now in
     let f = c.find in
-    elim c.find-test.branch [ then-find-test+then-loop-i-test+then-loop-j-test+then-joinable w ↦ let e : c.first_of.result ≡ w.first_of-first.result = c.first_of.ensures ∙ ap (λ v. first_of c.args.starts.now v f.d _) (c.inner_at-wide-2.ensures ∙ sym w.inner_at-wide.ensures) ∙ ap (first_of c.args.starts.now w.inner_at-wide.result f.d) w.i-is ∙ sym w.first_of-first.ensures in let n = rowed-place g c.args.sets.now c.args.skips.now c.args.starts.now c.args.cells.now c.requires.ground c.requires.good_graph c.args.group c.args.share c.requires.share_of _ _ _ _ _ _ _ _ _ w.loop-j.invariant.0 w.loop-j.j w.loop-j.invariant.1 w.loop-j-test.true in place-fits w.number-is w.j-is e n.1 | else-find-test w ↦ absurd (not-past c.if-last-d.false w.find-test.false) ]
+    elim c.find-test.branch [ then-find-test+then-loop-i-test+then-loop-j-test+then-joinable w ↦ let e : c.first_of.result ≡ w.first_of-first.result = c.first_of.ensures ∙ ap (λ v. first_of c.args.starts.now v f.d _) (c.inner_at-wide-2.ensures ∙ sym w.inner_at-wide.ensures) ∙ ap (first_of c.args.starts.now w.inner_at-wide.result f.d) w.i-is ∙ sym w.first_of-first.ensures in let n = rowed-place g c.args.sets.now c.args.skips.now c.args.starts.now c.args.cells.now c.requires.footing c.requires.good_graph c.args.group c.args.share c.requires.share_of _ _ _ _ _ _ _ _ _ w.loop-j.invariant.0 w.loop-j.j w.loop-j.invariant.1 w.loop-j-test.true in place-fits w.number-is w.j-is e n.1 | else-find-test w ↦ absurd (not-past c.if-last-d.false w.find-test.false) ]
 
 pub returns : goal.returns
 returns c =
     let p = c.requires in
-    elim c.find-test.branch [ then-find-test+then-loop-i-test+then-loop-j-test+then-joinable w ↦ pair_found p.good_graph p.ground p.share_of w.loop-j.invariant.0 w.loop-j.invariant.1 w.loop-j.invariant.2 w.loop-j.invariant.3 w.loop-j-test.true w.joinable.ensures w.if-joinable.true w.first_of-first.ensures w.i-is w.j-is w.number-is c.inner_at-wide-2.ensures c.first_of.ensures | else-find-test w ↦ absurd (not-past c.if-last-d.false w.find-test.false) ]
+    elim c.find-test.branch [ then-find-test+then-loop-i-test+then-loop-j-test+then-joinable w ↦ pair_found p.good_graph p.footing p.share_of w.loop-j.invariant.0 w.loop-j.invariant.1 w.loop-j.invariant.2 w.loop-j.invariant.3 w.loop-j-test.true w.joinable.ensures w.if-joinable.true w.first_of-first.ensures w.i-is w.j-is w.number-is c.inner_at-wide-2.ensures c.first_of.ensures | else-find-test w ↦ absurd (not-past c.if-last-d.false w.find-test.false) ]

@@ -1,0 +1,11 @@
+use mathlib.Core.Path.{◌≡◌}
+use Prim.Native.Nat.{◌-◌, ◌≤◌}
+use lib.ListN.{length, take}
+use Rattle.skips.specs.Vectors.{written}
+use Rattle.turns.proofs.scans.lay_scans.Given as goal
+
+abbrev pub invariant-loop-i : goal.invariant-loop-i
+invariant-loop-i l = (l.i ≤ length l.scans) × (l.i-end ≡ length l.scans) × (length l.costs ≡ length l.initial.costs) × (l.costs ≡ written l.initial.costs 0 (take l.i l.scans))
+
+abbrev pub decreases-loop-i : goal.decreases-loop-i
+decreases-loop-i l = l.i-end - l.i
