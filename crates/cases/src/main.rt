@@ -8,11 +8,9 @@ ghost use Rattle.std.specs.Prelude.{◌+◌, ◌<◌, ◌≤◌, length};
 
 use planner::{Answer, plan};
 use sets::{has_table, size};
+use std::io;
+use std::io::Read;
 use std::num::{wrapping_add_u64, wrapping_add_usize, wrapping_sub_u64};
-
-const STDIN: i32 = 0;
-
-const STDOUT: i32 = 1;
 
 // What stands in lent memory before.
 const MARK: u64 = 77;
@@ -80,23 +78,23 @@ const LOGGED_INNER: usize = 419;
 
 const LOGGED_COSTS: usize = 420;
 
-fn put(text: &[u8]) {
-    io::write_all(STDOUT, text);
+fn put(rt: &impl Print, text: &[u8]) -> io::Result<()> {
+    rt.write_all(text)
 }
 
-fn print(number: u64) {
-    io::print_decimal(STDOUT, number);
+fn print(rt: &impl Print, number: u64) -> io::Result<()> {
+    rt.print(number)
 }
 
 // A blank and a number.
-fn print_next(number: u64) {
-    put(b" ");
-    print(number);
+fn print_next(rt: &impl Print, number: u64) -> io::Result<()> {
+    put(rt, b" ")?;
+    print(rt, number)
 }
 
-fn print_named(name: &[u8], number: u64) {
-    put(name);
-    print_next(number);
+fn print_named(rt: &impl Print, name: &[u8], number: u64) -> io::Result<()> {
+    put(rt, name)?;
+    print_next(rt, number)
 }
 
 fn at_most(n: usize, most: usize) -> usize
@@ -109,49 +107,58 @@ fn at_most(n: usize, most: usize) -> usize
 }
 
 // Table `t` of a set, with a comma before it unless it is the first; tells whether one is printed by now.
-fn print_table(t: u64, printed: bool) -> bool {
+fn print_table(rt: &impl Print, t: u64, printed: bool) -> io::Result<bool> {
     if printed {
-        put(b",");
+        put(rt, b",")?;
     }
-    print(t);
-    true
+    print(rt, t)?;
+    Ok(true)
 }
 
 // The tables of a set, ascending, with commas; 0 for the empty set, which is a single table's outer part.
-fn print_set(set: u64) {
+fn print_set(rt: &impl Print, set: u64) -> io::Result<()> {
     if set == 0 {
-        put(b"0");
-        return;
+        return put(rt, b"0");
     }
     let mut printed = false;
     for t in 1..PAST_TABLES {
         if has_table(set, t) {
-            printed = print_table(t, printed);
+            printed = print_table(rt, t, printed)?;
         }
     }
+    Ok(())
 }
 
 // Cells `from` to `to` of the skip vectors, a blank before each.
-fn print_cells(skips: &[u64; 820], from: usize, to: usize)
+fn print_cells(rt: &impl Print, skips: &[u64; 820], from: usize, to: usize) -> io::Result<()>
     requires { to ≤ 820 }
 {
     for i in from..to {
-        print_next(skips[i]);
+        print_next(rt, skips[i])?;
     }
+    Ok(())
 }
 
 // A memo row as document 01 orders its fields.
-fn print_row(set: u64, estimate: u64, cost: u64, outer: u64, method: u64) {
-    print_set(set);
-    print_next(estimate);
-    print_next(cost);
-    put(b" ");
-    print_set(outer);
-    print_next(method);
+fn print_row(
+    rt: &impl Print,
+    set: u64,
+    estimate: u64,
+    cost: u64,
+    outer: u64,
+    method: u64,
+) -> io::Result<()> {
+    print_set(rt, set)?;
+    print_next(rt, estimate)?;
+    print_next(rt, cost)?;
+    put(rt, b" ")?;
+    print_set(rt, outer)?;
+    print_next(rt, method)
 }
 
 // The first `count` rows, each with its skip vector, which has a cell for each table of the set.
 fn print_memo(
+    rt: &impl Print,
     sets: &[u64; 140],
     estimates: &[u64; 140],
     costs: &[u64; 140],
@@ -159,23 +166,25 @@ fn print_memo(
     methods: &[u64; 140],
     skips: &[u64; 820],
     count: usize,
-)
+) -> io::Result<()>
     requires { count ≤ 140 }
 {
     let mut at = 0usize;
     for i in 0..count {
         let set = sets[i];
         let end = at_most(wrapping_add_usize(at, size(set) as usize), MOST_CELLS);
-        print_row(set, estimates[i], costs[i], outers[i], methods[i]);
-        put(b":");
-        print_cells(skips, at, end);
-        put(b"\n");
+        print_row(rt, set, estimates[i], costs[i], outers[i], methods[i])?;
+        put(rt, b":")?;
+        print_cells(rt, skips, at, end)?;
+        put(rt, b"\n")?;
         at = end;
     }
+    Ok(())
 }
 
 // The memo rows from `from` to `to`, which planning leaves as they were, as plain numbers.
 fn print_spare_rows(
+    rt: &impl Print,
     sets: &[u64; 140],
     estimates: &[u64; 140],
     costs: &[u64; 140],
@@ -183,83 +192,89 @@ fn print_spare_rows(
     methods: &[u64; 140],
     from: usize,
     to: usize,
-)
+) -> io::Result<()>
     requires { to ≤ 140 }
 {
     for i in from..to {
-        put(b"spare row");
-        print_next(sets[i]);
-        print_next(estimates[i]);
-        print_next(costs[i]);
-        print_next(outers[i]);
-        print_next(methods[i]);
-        put(b"\n");
+        put(rt, b"spare row")?;
+        print_next(rt, sets[i])?;
+        print_next(rt, estimates[i])?;
+        print_next(rt, costs[i])?;
+        print_next(rt, outers[i])?;
+        print_next(rt, methods[i])?;
+        put(rt, b"\n")?;
     }
+    Ok(())
 }
 
 // The first `count` entries of the log.
 fn print_log(
+    rt: &impl Print,
     workers: &[u64; 8],
     driving: &[u64; 8],
     inner: &[u64; 8],
     costs: &[u64; 8],
     count: usize,
-)
+) -> io::Result<()>
     requires { count ≤ 8 }
 {
     for i in 0..count {
-        print_named(b"worker", workers[i]);
-        put(b" joins ");
-        print_set(driving[i]);
-        put(b" ");
-        print_set(inner[i]);
-        print_named(b":", costs[i]);
-        put(b"\n");
+        print_named(rt, b"worker", workers[i])?;
+        put(rt, b" joins ")?;
+        print_set(rt, driving[i])?;
+        put(rt, b" ")?;
+        print_set(rt, inner[i])?;
+        print_named(rt, b":", costs[i])?;
+        put(rt, b"\n")?;
     }
+    Ok(())
 }
 
 // The log's entries from `from` to `to`, which planning leaves as they were, as plain numbers.
 fn print_spare_log(
+    rt: &impl Print,
     workers: &[u64; 8],
     driving: &[u64; 8],
     inner: &[u64; 8],
     costs: &[u64; 8],
     from: usize,
     to: usize,
-)
+) -> io::Result<()>
     requires { to ≤ 8 }
 {
     for i in from..to {
-        put(b"spare entry");
-        print_next(workers[i]);
-        print_next(driving[i]);
-        print_next(inner[i]);
-        print_next(costs[i]);
-        put(b"\n");
+        put(rt, b"spare entry")?;
+        print_next(rt, workers[i])?;
+        print_next(rt, driving[i])?;
+        print_next(rt, inner[i])?;
+        print_next(rt, costs[i])?;
+        put(rt, b"\n")?;
     }
+    Ok(())
 }
 
-fn print_counts(counts: &[u64; 8]) {
-    put(b" counts");
+fn print_counts(rt: &impl Print, counts: &[u64; 8]) -> io::Result<()> {
+    put(rt, b" counts")?;
     for w in 0..8usize {
-        print_next(counts[w]);
+        print_next(rt, counts[w])?;
     }
-    put(b"\n");
+    put(rt, b"\n")
 }
 
-fn print_answer(answer: Answer) {
+fn print_answer(rt: &impl Print, answer: Answer) -> io::Result<()> {
     let counts = answer.counts;
-    print_named(b"refusal", answer.refusal);
-    print_named(b" place", answer.place);
-    print_named(b" best", answer.best);
-    print_named(b" rows", answer.rows);
-    print_named(b" cells", answer.cells);
-    print_named(b" pairs", answer.pairs);
-    print_counts(&counts);
+    print_named(rt, b"refusal", answer.refusal)?;
+    print_named(rt, b" place", answer.place)?;
+    print_named(rt, b" best", answer.best)?;
+    print_named(rt, b" rows", answer.rows)?;
+    print_named(rt, b" cells", answer.cells)?;
+    print_named(rt, b" pairs", answer.pairs)?;
+    print_counts(rt, &counts)
 }
 
 // The answer, then what was lent: the part that planning fills, and the spare part.
 fn print_all(
+    rt: &impl Print,
     answer: Answer,
     sets: &[u64; 140],
     estimates: &[u64; 140],
@@ -274,37 +289,39 @@ fn print_all(
     rows: usize,
     cells: usize,
     entries: usize,
-)
+) -> io::Result<()>
     requires { (rows ≤ 140) × (cells ≤ 820) × (entries ≤ 8) }
 {
     let filled = at_most(answer.rows as usize, rows);
     let logged = at_most(answer.pairs as usize, entries);
-    put(b"\n");
-    print_answer(answer);
-    print_memo(sets, estimates, costs, outers, methods, skips, filled);
-    print_spare_rows(sets, estimates, costs, outers, methods, filled, rows);
-    put(b"spare cells");
-    print_cells(skips, answer.cells as usize, cells);
-    put(b"\n");
-    print_log(log_workers, log_driving, log_inner, log_costs, logged);
+    put(rt, b"\n")?;
+    print_answer(rt, answer)?;
+    print_memo(rt, sets, estimates, costs, outers, methods, skips, filled)?;
+    print_spare_rows(rt, sets, estimates, costs, outers, methods, filled, rows)?;
+    put(rt, b"spare cells")?;
+    print_cells(rt, skips, answer.cells as usize, cells)?;
+    put(rt, b"\n")?;
+    print_log(rt, log_workers, log_driving, log_inner, log_costs, logged)?;
     print_spare_log(
+        rt,
         log_workers,
         log_driving,
         log_inner,
         log_costs,
         logged,
         entries,
-    );
+    )
 }
 
-fn print_verdict(answer: Answer) {
-    print_named(b":", answer.refusal);
-    print_next(answer.place);
-    put(b"\n");
+fn print_verdict(rt: &impl Print, answer: Answer) -> io::Result<()> {
+    print_named(rt, b":", answer.refusal)?;
+    print_next(rt, answer.place)?;
+    put(rt, b"\n")
 }
 
 // Plans a query in marked memory, of so many cells to each column, and prints the answer and all of it, or number and place alone.
 fn plan_in(
+    rt: &impl Print,
     rows: &[u64],
     scans: &[u64],
     left: &[u64],
@@ -328,9 +345,9 @@ fn plan_in(
     loggedinner: usize,
     loggedcosts: usize,
     full: bool,
-)
-    requires lentsets_bound { (lentsets ≤ 140) × (lentestimates ≤ 140) × (lentcosts ≤ 140) × (lentouters ≤ 140) × (lentmethods ≤ 140) × (lentcells ≤ 820) }
-    requires loggedworkers_bound { (loggedworkers ≤ 8) × (loggeddriving ≤ 8) × (loggedinner ≤ 8) × (loggedcosts ≤ 8) }
+) -> io::Result<()>
+    requires memory_bound { (lentsets ≤ 140) × (lentestimates ≤ 140) × (lentcosts ≤ 140) × (lentouters ≤ 140) × (lentmethods ≤ 140) × (lentcells ≤ 820) }
+    requires log_bound { (loggedworkers ≤ 8) × (loggeddriving ≤ 8) × (loggedinner ≤ 8) × (loggedcosts ≤ 8) }
 {
     let mut sets = [MARK; 140];
     let mut estimates = [MARK; 140];
@@ -367,10 +384,10 @@ fn plan_in(
         &mut log_costs[0..loggedcosts],
     );
     if !full {
-        print_verdict(answer);
-        return;
+        return print_verdict(rt, answer);
     }
     print_all(
+        rt,
         answer,
         &sets,
         &estimates,
@@ -385,7 +402,7 @@ fn plan_in(
         lentsets,
         lentcells,
         loggedworkers,
-    );
+    )
 }
 
 fn get(cells: &[u64], i: usize) -> u64 {
@@ -404,9 +421,9 @@ fn end_of(cells: &[u64], from: usize) -> usize
 }
 
 // Plans what the lists hold.
-fn plan_lists(cells: &[u64], full: bool) {
+fn plan_lists(rt: &impl Print, cells: &[u64], full: bool) -> io::Result<()> {
     if cells.len() < INPUT {
-        return;
+        return Ok(());
     }
     let rows = end_of(cells, ROWS);
     let scans = end_of(cells, SCANS);
@@ -419,6 +436,7 @@ fn plan_lists(cells: &[u64], full: bool) {
     let result = end_of(cells, RESULT);
     let turns = end_of(cells, TURNS);
     plan_in(
+        rt,
         &cells[ROWS..rows],
         &cells[SCANS..scans],
         &cells[LEFT..left],
@@ -442,7 +460,7 @@ fn plan_lists(cells: &[u64], full: bool) {
         at_most(get(cells, LOGGED_INNER) as usize, MOST_ENTRIES),
         at_most(get(cells, LOGGED_COSTS) as usize, MOST_ENTRIES),
         full,
-    );
+    )
 }
 
 // The list of a letter; a line of another letter is a remark, and stands in a list that nobody reads.
@@ -533,46 +551,62 @@ fn line_end(text: &[u8], from: usize) -> usize
 }
 
 // Prints the name of an input, which stands behind the line's first byte, and plans it.
-fn run(text: &[u8], from: usize, end: usize, cells: &[u64], full: bool)
+fn run(
+    rt: &impl Print,
+    text: &[u8],
+    from: usize,
+    end: usize,
+    cells: &[u64],
+    full: bool,
+) -> io::Result<()>
     requires { end ≤ length text.now }
 {
     if from < end {
         let name = from + 1;
-        put(&text[name..end]);
+        put(rt, &text[name..end])?;
     }
-    plan_lists(cells, full);
+    plan_lists(rt, cells, full)
 }
 
 // A letter's line sets its list, `=` keeps all lists for the inputs that follow, `!` and `?` plan, and what was kept stands again.
-fn take_line(text: &[u8], from: usize, end: usize, kept: &mut [u64], cells: &mut [u64])
+fn take_line(
+    rt: &impl Print,
+    text: &[u8],
+    from: usize,
+    end: usize,
+    kept: &mut [u64],
+    cells: &mut [u64],
+) -> io::Result<()>
     requires { (from < length text.now) × (end ≤ length text.now) }
 {
     let kind = text[from];
     if kind == b'=' {
         copy(cells, kept);
-        return;
+        return Ok(());
     }
     if kind == b'!' || kind == b'?' {
-        run(text, from, end, cells, kind == b'!');
+        run(rt, text, from, end, cells, kind == b'!')?;
         copy(kept, cells);
-        return;
+        return Ok(());
     }
     read_list(text, from + 1, end, cells, list_of(kind));
+    Ok(())
 }
 
-fn take_lines(text: &[u8], kept: &mut [u64], cells: &mut [u64]) {
+fn take_lines(rt: &impl Print, text: &[u8], kept: &mut [u64], cells: &mut [u64]) -> io::Result<()> {
     let mut from = 0usize;
     while from < text.len() {
         let end = line_end(text, from);
-        take_line(text, from, end, kept, cells);
+        take_line(rt, text, from, end, kept, cells)?;
         from = end + 1;
     }
+    Ok(())
 }
 
-fn main() {
-    let mut text = [0u8; 16384];
-    let length = io::read_full(STDIN, &mut text);
+fn main(rt: HostRuntime) -> io::Result<()> {
+    let mut text = Vec::new(rt.alloc());
+    rt.reader().take(16384).read_to_end(&mut text)?;
     let mut kept = [0u64; INPUT];
     let mut cells = [0u64; INPUT];
-    take_lines(&text[0..length], &mut kept, &mut cells);
+    take_lines(&rt, &text, &mut kept, &mut cells)
 }

@@ -1,13 +1,15 @@
 // The program: the text on standard input, its answer on standard output.
 #![tactic(auto)]
 
+use std::io;
+use std::io::Read;
 use text::plan_bytes;
 
-fn main() {
+fn main(rt: HostRuntime) -> io::Result<()> {
     // One byte more than a text may have is enough to know that it is too long.
-    let mut query = [0u8; 16385];
-    let length = io::read_full(0, &mut query);
+    let mut query = Vec::new(rt.alloc());
+    rt.reader().take(16385).read_to_end(&mut query)?;
     let mut answer = [0u8; 4096];
-    let written = plan_bytes(&query[0..length], &mut answer);
-    io::write_all(1, &answer[0..written]);
+    let written = plan_bytes(&query, &mut answer);
+    rt.write_all(&answer[0..written])
 }

@@ -27,7 +27,7 @@ use Rattle.rules.specs.laws.Kinds.{crew-workers}
 use Rattle.rules.specs.laws.Refusals.{checked, crew-named}
 use Rattle.memo.specs.declared.layout.Laid.{Laid}
 use Rattle.skips.specs.Vectors.{written}
-use Rattle.memo.specs.Layout.{Lent, lent_of, OneLength, Room, laid, counts, refused, LaidOut}
+use Rattle.memo.specs.Layout.{Lent, lent_of, OneLength, Room, laid, LaidOut}
 use Rattle.memo.specs.LayoutLaws.{laid-verdict, written_over, front}
 use Rattle.turns.specs.Standing.{columns}
 use Rattle.turns.specs.StartLaws.{estimated-of}

@@ -2,7 +2,7 @@
 // What it must print was worked out from document 01 apart from this code, and stands in `stdout`.
 #![tactic(auto)]
 
-ghost use Rattle.std.specs.Prelude.{ℕ, ◌+◌, ◌-◌, ◌≤◌, ◌<◌, length};
+ghost use Rattle.std.specs.Prelude.{IfOk, ℕ, ◌+◌, ◌-◌, ◌≤◌, ◌<◌, length};
 ghost use Rattle.rules.specs.Limits.{max_workers};
 ghost use Rattle.rules.specs.declared.Shape.TheVariants.{Bushy};
 ghost use Rattle.rules.specs.Schedule.{by_size};
@@ -22,10 +22,9 @@ use rules::{Crew, Group, Scheme};
 use sets::{lowest_table, single};
 use shares::Share;
 use starts::lay_starts;
+use std::io;
 use turns::scans::lay_scans;
 use turns::turn::turn;
-
-const STDOUT: i32 = 1;
 
 // The workers between sizes, and how many entries of the list of turns are used up.
 #[derive(Clone, Copy)]
@@ -34,114 +33,122 @@ struct State {
     used: usize,
 }
 
-fn put(text: &[u8]) {
-    io::write_all(STDOUT, text);
+fn put(rt: &impl Print, text: &[u8]) -> io::Result<()> {
+    rt.write_all(text)
 }
 
 // The tables of a set, ascending, with commas.
-fn print_set(set: u64)
+fn print_set(rt: &impl Print, set: u64) -> io::Result<()>
     requires { Printable set }
 {
     let mut left = set;
     while left != 0 {
         let t = lowest_table(left);
-        io::print_decimal(STDOUT, t);
+        rt.print(t)?;
         left -= single(t);
         if left != 0 {
-            put(b",");
+            put(rt, b",")?;
         }
     }
+    Ok(())
 }
 
 // A worker's cut of the candidates, which is its share under scheme 1.
-fn print_share(share: Share)
+fn print_share(rt: &impl Print, share: Share) -> io::Result<()>
     requires { share.from ≤ share.to }
 {
-    io::print_decimal(STDOUT, share.worker as u64);
-    put(b" has ");
-    io::print_decimal(STDOUT, (share.to - share.from) as u64);
-    put(b"\n");
+    rt.print(share.worker as u64)?;
+    put(rt, b" has ")?;
+    rt.print((share.to - share.from) as u64)?;
+    put(rt, b"\n")
 }
 
 // Where a worker waits: the number of its next joinable pair, and the pair.
-fn print_place(sets: &[u64], worker: Worker)
+fn print_place(rt: &impl Print, sets: &[u64], worker: Worker) -> io::Result<()>
     requires { Shown sets.now worker }
 {
     let share = worker.share;
     let place = worker.place;
-    io::print_decimal(STDOUT, share.worker as u64);
-    put(b" waits at ");
-    io::print_decimal(STDOUT, place.number as u64);
+    rt.print(share.worker as u64)?;
+    put(rt, b" waits at ")?;
+    rt.print(place.number as u64)?;
     if !place.left {
-        put(b": none\n");
-        return;
+        return put(rt, b": none\n");
     }
     let i = place.row;
     let j = place.inner;
-    put(b": ");
-    print_set(sets[i]);
-    put(b" ");
-    print_set(sets[j]);
-    put(b"\n");
+    put(rt, b": ")?;
+    print_set(rt, sets[i])?;
+    put(rt, b" ")?;
+    print_set(rt, sets[j])?;
+    put(rt, b"\n")
 }
 
 // What a turn of worker `w` handed, and the cost in the result's row after it.
-fn print_pair(w: usize, pair: Handed)
+fn print_pair(rt: &impl Print, w: usize, pair: Handed) -> io::Result<()>
     requires { Printable pair.driving × Printable pair.inner }
 {
-    io::print_decimal(STDOUT, w as u64);
+    rt.print(w as u64)?;
     if !pair.found {
-        put(b" joins none\n");
-        return;
+        return put(rt, b" joins none\n");
     }
-    put(b" joins ");
-    print_set(pair.driving);
-    put(b" ");
-    print_set(pair.inner);
-    put(b": ");
-    io::print_decimal(STDOUT, pair.cost);
-    put(b"\n");
+    put(rt, b" joins ")?;
+    print_set(rt, pair.driving)?;
+    put(rt, b" ")?;
+    print_set(rt, pair.inner)?;
+    put(rt, b": ")?;
+    rt.print(pair.cost)?;
+    put(rt, b"\n")
 }
 
 // The shares of `count` workers.
-fn print_shares(workers: [Worker; 8], count: usize)
+fn print_shares(rt: &impl Print, workers: [Worker; 8], count: usize) -> io::Result<()>
     requires { (count ≤ max_workers) × ((w : ℕ) → w < count → (worker_at workers w).share.from ≤ (worker_at workers w).share.to) }
 {
     for w in 0..count {
         let worker = workers[w];
         let share = worker.share;
-        print_share(share);
+        print_share(rt, share)?;
     }
+    Ok(())
 }
 
 // The places of `count` workers.
-fn print_places(sets: &[u64], workers: [Worker; 8], count: usize)
+fn print_places(rt: &impl Print, sets: &[u64], workers: [Worker; 8], count: usize) -> io::Result<()>
     requires { (count ≤ max_workers) × ((w : ℕ) → w < count → Shown sets.now (worker_at workers w)) }
 {
     for w in 0..count {
         let worker = workers[w];
-        print_place(sets, worker);
+        print_place(rt, sets, worker)?;
     }
+    Ok(())
 }
 
 // A size as it is opened; under scheme 1 with the workers' shares, which are cuts of its candidates.
-fn print_size(sets: &[u64], size: usize, crew: Crew, workers: [Worker; 8])
+fn print_size(
+    rt: &impl Print,
+    sets: &[u64],
+    size: usize,
+    crew: Crew,
+    workers: [Worker; 8],
+) -> io::Result<()>
     requires { (crew.workers ≤ max_workers) × ((w : ℕ) → w < crew.workers → Shown sets.now (worker_at workers w)) }
 {
     let scheme = crew.scheme;
     let count = crew.workers as usize;
-    put(b"size ");
-    io::print_decimal(STDOUT, size as u64);
-    put(b"\n");
+    put(rt, b"size ")?;
+    rt.print(size as u64)?;
+    put(rt, b"\n")?;
     if scheme.number() == 1 {
-        print_shares(workers, count);
+        print_shares(rt, workers, count)?;
     }
-    print_places(sets, workers, count);
+    print_places(rt, sets, workers, count)
 }
 
 // Turns of group `k` until no worker has a pair left: first the entries of the list, then the lowest-numbered worker. The scan costs are
 // named in the promise alone.
 fn take_turns(
+    rt: &impl Print,
     rows: &[u64],
     scans: &[u64],
     left: &[u64],
@@ -163,11 +170,11 @@ fn take_turns(
     crew: Crew,
     turns: &[u64],
     opened: State,
-) -> State
+) -> io::Result<State>
     requires prepared { Prepared (query_of rows.now scans.now left.now right.now divisors.now fixed.now outer.now inner.now res.now) sets.now estimates.now skips.now starts.now cells.now }
-    requires le_k { (1 ≤ k) × (k ≤ length rows.now - 1) × Work (query_of rows.now scans.now left.now right.now divisors.now fixed.now outer.now inner.now res.now) crew (by_size Bushy) turns.now }
+    requires group { (1 ≤ k) × (k ≤ length rows.now - 1) × Work (query_of rows.now scans.now left.now right.now divisors.now fixed.now outer.now inner.now res.now) crew (by_size Bushy) turns.now }
     requires within { Within (query_of rows.now scans.now left.now right.now divisors.now fixed.now outer.now inner.now res.now) crew k opened.workers (columns costs.old outers.old methods.old) }
-    ensures { Between (query_of rows.now scans.now left.now right.now divisors.now fixed.now outer.now inner.now res.now) crew (k + 1) result.workers (columns costs.new outers.new methods.new) }
+    ensures { IfOk result (λ s. Between (query_of rows.now scans.now left.now right.now divisors.now fixed.now outer.now inner.now res.now) crew (k + 1) s.workers (columns costs.new outers.new methods.new)) }
 {
     let group = Group::by_size(k);
     let mut workers = opened.workers;
@@ -183,17 +190,18 @@ fn take_turns(
         let moved = turned.workers;
         let pair = turned.pair;
         workers = moved;
-        print_pair(w, pair);
+        print_pair(rt, w, pair)?;
         low = lowest(workers, crew.workers as usize);
     }
-    State {
+    Ok(State {
         workers: workers,
         used: used,
-    }
+    })
 }
 
 // Opens the group of each size, prints where its workers wait, and takes its turns.
 fn run_sizes(
+    rt: &impl Print,
     rows: &[u64],
     scans: &[u64],
     left: &[u64],
@@ -213,7 +221,7 @@ fn run_sizes(
     cells: &[usize],
     crew: Crew,
     turns: &[u64],
-)
+) -> io::Result<()>
     requires { Started (query_of rows.now scans.now left.now right.now divisors.now fixed.now outer.now inner.now res.now) crew turns.now sets.now estimates.now skips.now starts.now cells.now (columns costs.old outers.old methods.old) }
 {
     let nobody = nobody();
@@ -228,21 +236,23 @@ fn run_sizes(
         let workers = open(
             rows, left, right, divisors, sets, skips, starts, cells, group, crew, old,
         );
-        print_size(sets, k + 1, crew, workers);
+        print_size(rt, sets, k + 1, crew, workers)?;
         let opened = State {
             workers: workers,
             used: state.used,
         };
         state = take_turns(
-            rows, scans, left, right, divisors, fixed, outer, inner, res, sets, estimates, costs,
-            outers, methods, skips, starts, cells, k, crew, turns, opened,
-        );
+            rt, rows, scans, left, right, divisors, fixed, outer, inner, res, sets, estimates,
+            costs, outers, methods, skips, starts, cells, k, crew, turns, opened,
+        )?;
         k += 1;
     }
+    Ok(())
 }
 
 // Checks a query and its crew, lays out its memo with the scan costs, and takes the turns of its sizes.
 fn play(
+    rt: &impl Print,
     rows: &[u64],
     scans: &[u64],
     left: &[u64],
@@ -263,7 +273,7 @@ fn play(
     skips: &mut [u64],
     starts: &mut [usize],
     cells: &mut [usize],
-)
+) -> io::Result<()>
     requires { (length rows.now + 2 ≤ length starts.old) × (length rows.now + 2 ≤ length cells.old) }
 {
     let verdict = check(
@@ -290,14 +300,14 @@ fn play(
         0,
     );
     if verdict.number != 0 {
-        return;
+        return Ok(());
     }
     let counts = tally(rows, left, right, divisors);
     let laid = lay_out(
         rows, left, right, divisors, &counts, sets, estimates, costs, outers, methods, skips,
     );
     if laid.refusal != 0 {
-        return;
+        return Ok(());
     }
     lay_starts(rows, left, right, divisors, &counts, starts, cells);
     lay_scans(scans, costs);
@@ -306,13 +316,13 @@ fn play(
         scheme: scheme,
     };
     run_sizes(
-        rows, scans, left, right, divisors, fixed, outer, inner, res, sets, estimates, costs,
+        rt, rows, scans, left, right, divisors, fixed, outer, inner, res, sets, estimates, costs,
         outers, methods, skips, starts, cells, crew, turns,
-    );
+    )
 }
 
 // Document 01's query under a scheme with so many workers and so many turns of worker 1 listed.
-fn run(scheme: Scheme, workers: u64, listed: usize)
+fn run(rt: &impl Print, scheme: Scheme, workers: u64, listed: usize) -> io::Result<()>
     requires { listed ≤ 2 }
 {
     let rows = [100, 10, 1000];
@@ -334,6 +344,7 @@ fn run(scheme: Scheme, workers: u64, listed: usize)
     let mut starts = [0usize; 5];
     let mut cells = [0usize; 5];
     play(
+        rt,
         &rows,
         &scans,
         &left,
@@ -354,34 +365,35 @@ fn run(scheme: Scheme, workers: u64, listed: usize)
         &mut skips,
         &mut starts,
         &mut cells,
-    );
+    )
 }
 
-fn run_named(scheme: Scheme, workers: u64, listed: usize)
+fn run_named(rt: &impl Print, scheme: Scheme, workers: u64, listed: usize) -> io::Result<()>
     requires { listed ≤ 2 }
 {
-    put(b"scheme ");
-    io::print_decimal(STDOUT, scheme.number());
-    put(b" workers ");
-    io::print_decimal(STDOUT, workers);
-    put(b"\n");
-    run(scheme, workers, listed);
+    put(rt, b"scheme ")?;
+    rt.print(scheme.number())?;
+    put(rt, b" workers ")?;
+    rt.print(workers)?;
+    put(rt, b"\n")?;
+    run(rt, scheme, workers, listed)
 }
 
 // A scheme's four crews, the second with a list of turns.
-fn crews(scheme: Scheme, listed: usize)
+fn crews(rt: &impl Print, scheme: Scheme, listed: usize) -> io::Result<()>
     requires { listed ≤ 2 }
 {
-    run_named(scheme, 1, 0);
-    run_named(scheme, 2, listed);
-    run_named(scheme, 3, 0);
-    run_named(scheme, 8, 0);
+    run_named(rt, scheme, 1, 0)?;
+    run_named(rt, scheme, 2, listed)?;
+    run_named(rt, scheme, 3, 0)?;
+    run_named(rt, scheme, 8, 0)
 }
 
 // C5's crew, two workers under scheme 3, has the list of turns 1,1.
-fn main() {
-    crews(Scheme::CutCandidates, 0);
-    crews(Scheme::CutRows, 0);
-    crews(Scheme::DealRows, 2);
-    crews(Scheme::DealInner, 0);
+fn main(rt: HostRuntime) -> io::Result<()> {
+    let rt = &rt;
+    crews(rt, Scheme::CutCandidates, 0)?;
+    crews(rt, Scheme::CutRows, 0)?;
+    crews(rt, Scheme::DealRows, 2)?;
+    crews(rt, Scheme::DealInner, 0)
 }

@@ -13,28 +13,29 @@ mod plan_in;
 mod play;
 
 use memory::{Memory, TALLY, get, sum};
-
-const STDOUT: i32 = 1;
+use std::io;
 
 // The names byte by byte; before each line's end a count.
-fn report(m: &Memory, names: &[u8]) {
+fn report(rt: &impl Print, m: &Memory, names: &[u8]) -> io::Result<()> {
     let mut i = 0u64;
     for at in 0..names.len() {
         let next = at + 1;
         if names[at] == 10 {
-            io::print_decimal(STDOUT, get(m, TALLY, i));
+            rt.print(get(m, TALLY, i))?;
             i = sum(i, 1);
         }
-        io::write_all(STDOUT, &names[at..next]);
+        rt.write_all(&names[at..next])?;
     }
+    Ok(())
 }
 
-fn main() {
+fn main(rt: HostRuntime) -> io::Result<()> {
     let mut m = [0u64; memory::SIZE];
     hold::all_queries(&mut m);
     crews::all_queries(&mut m);
     report(
+        &rt,
         &m,
         b"queries \nplans \nrefused \nanswers \nsets \nestimates \ncosts \nouters \nmethods \nskip cells \nlog workers \nlog driving sets \nlog inner sets \nlog costs \ncomparisons \ndifferences \nqueries of twelve crews \ntheir plans \ntheir comparisons \ntheir differences \ntheir log entries \nfaults in these \n",
-    );
+    )
 }
