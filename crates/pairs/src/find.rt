@@ -59,7 +59,7 @@ fn hop(
     both: u64,
 ) -> usize
     requires row_cells { RowCells sets.now skips.now base cell wide inner }
-    requires both_nonzero { (0 < both) × ((t : ℕ) → holds both t ≡ 1 → holds (get_or sets.now inner 0) t ≡ 1) }
+    requires shared { (0 < both) × ((t : ℕ) → holds both t ≡ 1 → holds (get_or sets.now inner 0) t ≡ 1) }
     ensures { (t : ℕ) → Lowest both t → Hops sets.now inner t result }
 {
     let t = lowest_table(both);
@@ -94,7 +94,7 @@ fn onward(
     step: usize,
 ) -> usize
     requires row_cells { RowCells sets.now skips.now base cell wide inner }
-    requires le_step { (1 ≤ step) × (step ≤ few) }
+    requires stride { (1 ≤ step) × (step ≤ few) }
     ensures { Onward sets.now x inner step result }
 {
     let both = x & sets[inner];

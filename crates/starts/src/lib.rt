@@ -19,7 +19,7 @@ pub fn lay_starts(
     cells: &mut [usize],
 )
     requires good_graph { GoodGraph (graph_of rows.now left.now right.now divisors.now) }
-    requires rows_in_bounds { (length rows.now + 2 ≤ length firsts.old) × (length rows.now + 2 ≤ length cells.old) }
+    requires room { (length rows.now + 2 ≤ length firsts.old) × (length rows.now + 2 ≤ length cells.old) }
     requires tally { Tally (graph_of rows.now left.now right.now divisors.now) counts.now }
     ensures firsts { firsts.new ≡ written firsts.old 0 (starts (graph_of rows.now left.now right.now divisors.now)) }
     ensures cells { cells.new ≡ written cells.old 0 (cell_starts (graph_of rows.now left.now right.now divisors.now)) }

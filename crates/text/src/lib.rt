@@ -37,7 +37,7 @@ fn put_answer(
     outers: &[u64],
     methods: &[u64],
 ) -> usize
-    requires answer_room_in_bounds { answer_room ≤ length out.old }
+    requires room { answer_room ≤ length out.old }
     requires answered { (i : Input) × Answered i n answer sets.now estimates.now costs.now outers.now methods.now }
     ensures { (i : Input) → Answered i n answer sets.now estimates.now costs.now outers.now methods.now → Composed (verdict i) i out.old out.new result }
 {

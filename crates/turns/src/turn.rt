@@ -132,7 +132,7 @@ pub fn turn(
     w: usize,
 ) -> Turned
     requires board { Board (graph_of rows.now left.now right.now divisors.now) fixed.now outer.now inner.now res.now sets.now estimates.now skips.now starts.now cells.now group (columns costs.old outers.old methods.old) }
-    requires w_bound { (w < 8) × Ready (graph_of rows.now left.now right.now divisors.now) group (worker_at workers w) }
+    requires ready { (w < 8) × Ready (graph_of rows.now left.now right.now divisors.now) group (worker_at workers w) }
     ensures { TurnTaken (graph_of rows.now left.now right.now divisors.now) fixed.now outer.now inner.now res.now group w workers result.workers (columns costs.old outers.old methods.old) (columns costs.new outers.new methods.new) result.pair }
 {
     let worker = worker_at(workers, w);

@@ -10,7 +10,7 @@ joinable-requires c = c.requires.good_graph
 
 pub onward-inner-requires : goal.onward-inner-requires
 onward-inner-requires c = let z = c.requires.span_cells in
-    record { row_cells = z.rows _ c.loop-inner.invariant.from c.loop-inner-test.true; le_step = (z.some-step, z.few-step) }
+    record { row_cells = z.rows _ c.loop-inner.invariant.from c.loop-inner-test.true; stride = (z.some-step, z.few-step) }
 
 pub loop-inner-smaller : goal.loop-inner-smaller
 loop-inner-smaller c = omega (arith, c.onward-inner.ensures.after)

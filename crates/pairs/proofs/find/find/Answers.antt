@@ -134,7 +134,7 @@ joinable-requires c = c.requires.good_graph
 pub onward-j-requires : goal.onward-j-requires
 onward-j-requires c = let m = c.loop-j in
     let z = m.invariant.0.span-cells in
-    record { row_cells = z.rows _ m.invariant.1.from c.loop-j-test.true; le_step = (z.some-step, z.few-step) }
+    record { row_cells = z.rows _ m.invariant.1.from c.loop-j-test.true; stride = (z.some-step, z.few-step) }
 
 pub loop-j-smaller : goal.loop-j-smaller
 loop-j-smaller c = less-inner c.onward-j.ensures.after c.loop-j-test.true

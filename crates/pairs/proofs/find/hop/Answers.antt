@@ -6,33 +6,33 @@ use Rattle.pairs.proofs.find.hop.Goals as goal
 pub lowest_table-t-requires : goal.lowest_table-t-requires
 lowest_table-t-requires c =
     let s = c.requires in
-    (s.both_nonzero.0, held_below s.row_cells s.both_nonzero.1)
+    (s.shared.0, held_below s.row_cells s.shared.1)
 
 pub rank_of-rank-requires : goal.rank_of-rank-requires
 rank_of-rank-requires c =
     let s = c.requires in
-    holds-lt 32 _ _ s.row_cells.below (s.both_nonzero.1 _ c.lowest_table-t.ensures.stands)
+    holds-lt 32 _ _ s.row_cells.below (s.shared.1 _ c.lowest_table-t.ensures.stands)
 
 pub overflow_add-next-2 : goal.overflow_add-next-2
-overflow_add-next-2 c = omega (arith, cell-inside c.requires.row_cells _ (c.requires.both_nonzero.1 _ c.lowest_table-t.ensures.stands) c.rank_of-rank.ensures)
+overflow_add-next-2 c = omega (arith, cell-inside c.requires.row_cells _ (c.requires.shared.1 _ c.lowest_table-t.ensures.stands) c.rank_of-rank.ensures)
 
 pub offset_bounds-skips-cell : goal.offset_bounds-skips-cell
-offset_bounds-skips-cell c = omega (arith, cell-inside c.requires.row_cells _ (c.requires.both_nonzero.1 _ c.lowest_table-t.ensures.stands) c.rank_of-rank.ensures)
+offset_bounds-skips-cell c = omega (arith, cell-inside c.requires.row_cells _ (c.requires.shared.1 _ c.lowest_table-t.ensures.stands) c.rank_of-rank.ensures)
 
 pub bounds-skips-cell : goal.bounds-skips-cell
 bounds-skips-cell c =
-    cell-inside c.requires.row_cells _ (c.requires.both_nonzero.1 _ c.lowest_table-t.ensures.stands) c.rank_of-rank.ensures
+    cell-inside c.requires.row_cells _ (c.requires.shared.1 _ c.lowest_table-t.ensures.stands) c.rank_of-rank.ensures
 
 pub overflow_add-result : goal.overflow_add-result
 overflow_add-result c =
-    let h = cell-hops c.requires.row_cells _ (c.requires.both_nonzero.1 _ c.lowest_table-t.ensures.stands) c.rank_of-rank.ensures in
+    let h = cell-hops c.requires.row_cells _ (c.requires.shared.1 _ c.lowest_table-t.ensures.stands) c.rank_of-rank.ensures in
     omega (arith, h.inside)
 
 pub overflow_sub-result : goal.overflow_sub-result
 overflow_sub-result c =
-    let h = cell-hops c.requires.row_cells _ (c.requires.both_nonzero.1 _ c.lowest_table-t.ensures.stands) c.rank_of-rank.ensures in
+    let h = cell-hops c.requires.row_cells _ (c.requires.shared.1 _ c.lowest_table-t.ensures.stands) c.rank_of-rank.ensures in
     omega (arith, h.after)
 
 pub returns : goal.returns
 returns c =
-    for-lowest c.lowest_table-t.ensures (cell-hops c.requires.row_cells _ (c.requires.both_nonzero.1 _ c.lowest_table-t.ensures.stands) c.rank_of-rank.ensures)
+    for-lowest c.lowest_table-t.ensures (cell-hops c.requires.row_cells _ (c.requires.shared.1 _ c.lowest_table-t.ensures.stands) c.rank_of-rank.ensures)

@@ -42,7 +42,7 @@ slice_bounds-lay_starts-end-2 c = refl
 
 pub lay_starts-requires : goal.lay_starts-requires
 lay_starts-requires c = let z = c.requires.search_ready in
-    record { good_graph = z.sound.graph; rows_in_bounds = (starts-room z.sound.graph.few-tables, starts-room z.sound.graph.few-tables); tally = c.requires.tally }
+    record { good_graph = z.sound.graph; room = (starts-room z.sound.graph.few-tables, starts-room z.sound.graph.few-tables); tally = c.requires.tally }
 
 pub lay_scans-requires : goal.lay_scans-requires
 lay_scans-requires c = scans-fit c.requires.search_ready

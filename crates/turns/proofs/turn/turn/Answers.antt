@@ -4,15 +4,15 @@ use Rattle.turns.proofs.turn.turn.Goals as goal
 
 pub worker_at-worker-requires : goal.worker_at-worker-requires
 worker_at-worker-requires c =
-    c.requires.w_bound.0
+    c.requires.ready.0
 
 pub step-stepped-requires : goal.step-stepped-requires
 step-stepped-requires c = let r = c.worker_at-worker in
-    record { board = c.requires.board; ready = ready_read c.args.workers c.args.w r.result r.ensures c.requires.w_bound.1 }
+    record { board = c.requires.board; ready = ready_read c.args.workers c.args.w r.result r.ensures c.requires.ready.1 }
 
 pub with_worker-next-requires : goal.with_worker-next-requires
 with_worker-next-requires c =
-    c.requires.w_bound.0
+    c.requires.ready.0
 
 pub shape_of-costs : goal.shape_of-costs
 shape_of-costs c = step-costs c.step-stepped.ensures
