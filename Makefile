@@ -1,6 +1,6 @@
 # make run < FILE   plans the query text FILE (the program is proved and linked first)
-# make test         the gate: every crate from nothing, every must-fail edit, every program, then the library from C
-# make lib          target/staticlib/libbutirampol.a, for C
+# make test         the gate: every crate, every must-fail edit, every test and program, then the library from C
+# make lib          crates/butirampol/out/libbutirampol.a, for C
 # make engine       a small engine in C over it, run on an example
 # make compare      the library held to the C reference, as the gate does it (docs/TESTING.md)
 # make soak         the same for long: TEXTS, CALLS and SEED may be given
@@ -12,8 +12,9 @@
 .PHONY: run test lib harness engine c-tests examples compare compare-1 compare-2 soak faults fuzz bench counts plot
 
 CFLAGS = -std=c11 -O2 -Wall -Wextra -Werror -Iinclude
-LIBRARY = target/staticlib/libbutirampol.a
-HARNESS = target/staticlib/libharness.a
+LIBRARY = crates/butirampol/out/libbutirampol.a
+HARNESS = crates/harness/out/libharness.a
+PROGRAM = crates/plan/out/plan
 
 SANITIZERS = -g -fsanitize=address,undefined -fno-sanitize-recover=all
 REFERENCE = tests/c/check.c tests/c/reference.c
@@ -26,19 +27,26 @@ SECONDS = 600
 # the gate's comparison, in two halves that run at once
 HALF = target/compare -t 100000 -c 10000
 
+# does a command of rt in a crate's folder; what rt says is shown only where it fails
+quietly = mkdir -p target && { (cd crates/$(1) && rt $(2) </dev/null) >target/$(1).log 2>&1 || { cat target/$(1).log; exit 1; }; }
+
 run:
-	@rt check plan </dev/null >&2
-	@target/bin/plan
+	@cd crates/plan && rt run
 
 test:
 	@tests/run
 
+# where the two are wanted at once, rt has the second wait
 lib:
-	@mkdir -p target && rt staticlib butirampol >target/staticlib.log 2>&1 || { cat target/staticlib.log; exit 1; }
+	@$(call quietly,butirampol,lib)
 
-# after `lib`: the two would write to one target/ at once
-harness: lib
-	@mkdir -p target && rt staticlib harness >target/harness.log 2>&1 || { cat target/harness.log; exit 1; }
+harness:
+	@$(call quietly,harness,lib)
+
+# as `rt ci` or `make run` left it; proved and built here where it is not there, or older than the code
+$(PROGRAM): crates.txt $(wildcard crates/*/src/*.rt)
+	@$(call quietly,plan,run)
+	@touch $@
 
 target/engine: examples/engine.c include/butirampol.h lib
 	@$(CC) $(CFLAGS) -o $@ $< $(LIBRARY)
@@ -62,7 +70,7 @@ engine: target/engine
 # what `rt ci` does not see: the compiled library behind its C header
 c-tests: examples compare
 
-examples: target/engine target/buffers target/stack
+examples: $(PROGRAM) target/engine target/buffers target/stack
 	@tests/examples
 
 compare: compare-1 compare-2
