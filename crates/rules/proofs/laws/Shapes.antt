@@ -47,4 +47,3 @@ module _ (q : Query) (me : IsMethod q 1) where
           let x = ih a.part (omega (arith, splits-size a.splits, size-pow (a.last - 1))) a.connected in
           (join x.0 (scan a.last) 1, (x.1, a.table, record { apart = rw x.2 a.splits.apart; between = rw x.2 a.between }, me, single-fits q a.last), rw x.2 a.splits.whole)
       go (no z) ih = tree-one S (omega arith) c
-

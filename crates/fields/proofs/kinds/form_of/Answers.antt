@@ -1,6 +1,5 @@
 use mathlib.Core.Path.{◌∙◌}
 use Rattle.fields.specs.KindLaws.{form-other, form-letter}
-use borrow.Author.Rules.{rules}
 use Rattle.fields.proofs.kinds.form_of.Goals as goal
 
 pub returns-then-first-ne1 : goal.returns-then-first-ne1

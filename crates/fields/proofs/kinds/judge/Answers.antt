@@ -1,6 +1,5 @@
 use Rattle.fields.specs.KindLaws.{known-few}
 use Rattle.fields.specs.JudgeLaws.{judged-unknown, judged-known}
-use borrow.Author.Rules.{rules}
 use Rattle.fields.proofs.kinds.judge.Goals as goal
 
 pub judge_form-requires : goal.judge_form-requires

@@ -1,4 +1,4 @@
-use Rattle.fields.specs.KindLaws.{letter-table, letter-method, letter-edge, letter-crew, letter-none}
+use Rattle.fields.specs.KindLaws.{letter-table, letter-method, letter-edge, letter-crew}
 use Rattle.std.proofs.Common.{tests, rules}
 use Rattle.rules.specs.Reading.{letter_of}
 use Rattle.fields.proofs.kinds.letter_of.Goals as goal
