@@ -25,7 +25,8 @@ use Rattle.rules.specs.laws.Lists.{at_in}
 use Rattle.rules.proofs.laws.Rows.{rows-only, below_all}
 use Rattle.rules.proofs.laws.Skips.{vector-right}
 use Rattle.rules.specs.laws.Candidates.{numbered-length}
-use Rattle.rules.proofs.laws.Complete.{mine, queue-mine}
+use Rattle.rules.proofs.laws.Complete.{queue-mine}
+use Rattle.rules.specs.laws.Standing.{mine}
 use Rattle.sets.specs.Laws.{rank-at, rank_lt}
 use Rattle.rows.specs.WalkLaws.{rows_fit}
 use Rattle.skips.specs.VectorLaws.{vectors-cells}

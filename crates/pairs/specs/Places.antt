@@ -9,7 +9,7 @@ use Rattle.rules.specs.Schedule.{inner_at}
 use Rattle.rules.specs.Rows.{rows_of, memo}
 use Rattle.rules.specs.Skips.{skips}
 use Rattle.rules.specs.Shares.{Numbered, met}
-use Rattle.rules.proofs.laws.Complete.{mine}
+use Rattle.rules.specs.laws.Standing.{mine}
 use Rattle.rows.specs.Sizes.{up_to}
 use Rattle.starts.specs.Starts.{cells_to}
 use Rattle.shares.specs.declared.places.Place.{Place}

@@ -13,8 +13,8 @@ use Rattle.rules.specs.Shares.{share}
 use Rattle.rules.specs.declared.Verdict.{Verdict}
 use Rattle.rules.specs.Refusals.{Memory, Input, verdict}
 use Rattle.rules.specs.Answers.{Row, schedule_of}
-use Rattle.rules.proofs.laws.Reference.{offers_below}
-use Rattle.rules.proofs.laws.Outcome.{best_at, outcome, computed, outcome-planned}
+use Rattle.rules.specs.laws.Standing.{offers_below, best_at}
+use Rattle.rules.proofs.laws.Outcome.{outcome, computed, outcome-planned}
 
 -- "Input": three tables, two methods, edges 1-2 and 2-3
 abbrev pub example : Query

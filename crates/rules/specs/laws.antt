@@ -1,4 +1,4 @@
--- Laws of single definitions. What follows from several of them together, the theorems, stands in proofs/laws.
+-- Laws of single definitions, and in Standing what contracts of the search say. What follows from several together stands in proofs/laws.
 pub mod Kinds
 pub mod Bools
 pub mod Lists
@@ -10,6 +10,7 @@ pub mod Decide
 pub mod Choice
 pub mod Shares
 pub mod Candidates
+pub mod Standing
 pub mod Turns
 pub mod Hands
 pub mod Refusals

@@ -22,9 +22,10 @@ use Rattle.rules.specs.laws.Lists.{at_in}
 use Rattle.rules.proofs.laws.Rows.{memo-only}
 use Rattle.rules.specs.laws.Choice.{Best}
 use Rattle.rules.specs.laws.Choice.{kept}
-use Rattle.rules.proofs.laws.Handed.{JoinablePair, With, Handed, handed-same, row-stands}
-use Rattle.rules.proofs.laws.Progress.{FinalRow, Stood, Sofar, between-end, sofar-joinable}
-use Rattle.rules.proofs.laws.Outcome.{best_at, best-least}
+use Rattle.rules.proofs.laws.Handed.{handed-same, row-stands}
+use Rattle.rules.specs.laws.Standing.{JoinablePair, With, Handed, FinalRow, Stood, Sofar, best_at}
+use Rattle.rules.proofs.laws.Progress.{between-end, sofar-joinable}
+use Rattle.rules.proofs.laws.Outcome.{best-least}
 use Rattle.crew.specs.declared.Worker.{Worker}
 use Rattle.crew.specs.declared.Handed as code
 use Rattle.shares.specs.Shares.{few, share_of}

@@ -15,8 +15,7 @@ use Rattle.rules.specs.Refusals.{Memory}
 use Rattle.rules.specs.Checked.{Sound}
 use Rattle.rules.specs.Answers.{Spared, Logged, per_worker}
 use Rattle.rules.specs.laws.Turns.{Below}
-use Rattle.rules.proofs.laws.Handed.{among}
-use Rattle.rules.proofs.laws.Progress.{FinalRow, Before, Sofar}
+use Rattle.rules.specs.laws.Standing.{among, FinalRow, Before, Sofar}
 use Rattle.skips.specs.Vectors.{written}
 use Rattle.crew.specs.declared.Worker.{Worker}
 use Rattle.crew.specs.Logs.{LogFits}

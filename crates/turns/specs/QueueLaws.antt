@@ -15,7 +15,7 @@ use Rattle.rules.specs.Turns.{rest, pop, hand, Empty, Lowest}
 use Rattle.rules.specs.Log.{pair_of}
 use Rattle.rules.specs.laws.Bools.{true-or-false}
 use Rattle.rules.specs.laws.Turns.{sum_to, sum_same}
-use Rattle.rules.proofs.laws.Complete.{mine}
+use Rattle.rules.specs.laws.Standing.{mine}
 use Rattle.crew.specs.declared.Worker.{Worker}
 use Rattle.shares.specs.declared.places.Place.{Place}
 use Rattle.shares.specs.declared.Share.{Share}

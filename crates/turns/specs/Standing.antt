@@ -14,8 +14,8 @@ use Rattle.rules.specs.Turns.{Hand}
 use Rattle.rules.specs.Checked.{GoodGraph, Sound}
 use Rattle.rules.specs.laws.Choice.{Best}
 use Rattle.rules.specs.laws.Choice.{kept}
-use Rattle.rules.proofs.laws.Complete.{mine}
-use Rattle.rules.proofs.laws.Progress as progress
+use Rattle.rules.specs.laws.Standing.{mine}
+use Rattle.rules.specs.laws.Standing as standing
 use Rattle.turns.specs.Index.{index_of}
 use Rattle.crew.specs.declared.Worker.{Worker}
 use Rattle.crew.specs.declared.Handed as code
@@ -126,14 +126,14 @@ pub record TurnTaken (g : Graph) (fixed outer inner result : List ℕ) (group : 
 abbrev pub places_of : List Worker → ℕ → ℕ
 places_of workers w = (worker_at workers w).place.number
 
--- "the memo as the turns before left it", in group k: the workers at their places, sets of at most k tables final, each other row the best of the pairs handed (rules, laws.Progress)
+-- "the memo as the turns before left it", in group k: the workers at their places, sets of at most k tables final, each other row the best of the pairs handed (rules, laws.Standing)
 pub record Standing (q : Query) (crew : Crew) (groups : Schedule) (k : ℕ) (workers : List Worker) (c : Columns) : Type 0 where
   pub places : InPlace q.graph (groups k) crew workers
-  pub rows : progress.Standing q crew groups k (places_of workers) (row_in q.graph c)
+  pub rows : standing.Standing q crew groups k (places_of workers) (row_in q.graph c)
 
 -- between two groups
 abbrev pub Final : Query → Crew → Schedule → ℕ → Columns → Type 0
-Final q crew groups k c = progress.Between q crew groups k (row_in q.graph c)
+Final q crew groups k c = standing.Between q crew groups k (row_in q.graph c)
 
 -- ---- queues
 -- what is left to each worker at its place

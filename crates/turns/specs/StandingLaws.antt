@@ -23,12 +23,13 @@ use Rattle.rules.specs.laws.Lists.{at_in}
 use Rattle.rules.specs.laws.Choice.{Best}
 use Rattle.rules.specs.laws.Choice.{kept}
 use Rattle.rules.specs.laws.Candidates.{numbered_of, numbered-length}
-use Rattle.rules.proofs.laws.Handed.{With}
+use Rattle.rules.specs.laws.Standing.{With, mine}
 use Rattle.rules.specs.laws.Connected.{connected-join}
 use Rattle.rules.proofs.laws.Rows.{memo-once}
-use Rattle.rules.proofs.laws.Complete.{mine, met-sized}
+use Rattle.rules.proofs.laws.Complete.{met-sized}
 use Rattle.rules.proofs.laws.Final.{group-ways, results-large}
 use Rattle.rules.proofs.laws.Progress as progress
+use Rattle.rules.specs.laws.Standing as standing
 use Rattle.crew.specs.declared.Worker.{Worker}
 use Rattle.shares.specs.declared.places.Place.{Place}
 use Rattle.crew.specs.declared.Handed as code
@@ -143,7 +144,7 @@ module _ {q : Query} {crew : Crew} {groups : Schedule} {turns : List ℕ} (work 
         go (no v) = omega arith
 
     -- nothing of the group is handed yet
-    pub sofar-open : (p : Pair) → progress.Sofar q crew groups k (places_of workers) p → progress.Before q crew groups k p
+    pub sofar-open : (p : Pair) → standing.Sofar q crew groups k (places_of workers) p → standing.Before q crew groups k p
     sofar-open = progress.sofar-open q crew groups k (places_of workers) none_before
 
     pub standing-open : (c : Columns) → Final q crew groups k c → Standing q crew groups k workers c
@@ -155,10 +156,10 @@ module _ {q : Query} {crew : Crew} {groups : Schedule} {turns : List ℕ} (work 
     all-before w l x i own = omega (arith, (met-number q.graph (groups k) x i).1, ap (λ (y : Place). y.number) ((z.ready w l).waits.none (none w l)))
 
     -- the group is one of those before the next
-    pub sofar-before : (p : Pair) → progress.Sofar q crew groups k (places_of workers) p → progress.Before q crew groups (suc k) p
+    pub sofar-before : (p : Pair) → standing.Sofar q crew groups k (places_of workers) p → standing.Before q crew groups (suc k) p
     sofar-before = progress.sofar-before q crew groups k one (places_of workers)
 
-    pub before-sofar : (p : Pair) → progress.Before q crew groups (suc k) p → progress.Sofar q crew groups k (places_of workers) p
+    pub before-sofar : (p : Pair) → standing.Before q crew groups (suc k) p → standing.Sofar q crew groups k (places_of workers) p
     before-sofar = progress.before-sofar q crew groups k one (places_of workers) work.some-worker all-before
 
     pub standing-closed : (c : Columns) → Standing q crew groups k workers c → Final q crew groups (suc k) c
@@ -277,16 +278,16 @@ module _ {q : Query} {crew : Crew} {groups : Schedule} {turns : List ℕ} (work 
       }
 
       -- the pairs handed so far are one more, its own, and no other
-      pub turn_more : (r : Pair) → With (progress.Sofar q crew groups k (places_of workers)) (pair_of (hand_at q.graph (groups k) workers w)) r → progress.Sofar q crew groups k (places_of workers') r
+      pub turn_more : (r : Pair) → With (standing.Sofar q crew groups k (places_of workers)) (pair_of (hand_at q.graph (groups k) workers w)) r → standing.Sofar q crew groups k (places_of workers') r
       unfolding x
       turn_more = progress.sofar-more q crew groups k (places_of workers) (places_of workers') w worker x stands own number (omega (arith, h.next.ahead)) next (other_place st.places worker t)
 
-      pub turn-less : (r : Pair) → progress.Sofar q crew groups k (places_of workers') r → With (progress.Sofar q crew groups k (places_of workers)) (pair_of (hand_at q.graph (groups k) workers w)) r
+      pub turn-less : (r : Pair) → standing.Sofar q crew groups k (places_of workers') r → With (standing.Sofar q crew groups k (places_of workers)) (pair_of (hand_at q.graph (groups k) workers w)) r
       unfolding x
       turn-less = progress.sofar-less q crew groups k (places_of workers) (places_of workers') w worker x stands own number (omega (arith, h.next.ahead)) next (other_place st.places worker t)
 
       -- its result's row is the best of the pairs handed for it
-      pub turn-stood : progress.Stood q (progress.Sofar q crew groups k (places_of workers')) (union (pair_of (hand_at q.graph (groups k) workers w))) (choice_in new (t.step.some left).row)
+      pub turn-stood : standing.Stood q (standing.Sofar q crew groups k (places_of workers')) (union (pair_of (hand_at q.graph (groups k) workers w))) (choice_in new (t.step.some left).row)
       unfolding x h
       turn-stood =
           let j = progress.sofar-joinable q crew groups k (places_of workers') (sets_of x) (turn_more (sets_of x) (inr refl)) in

@@ -11,6 +11,7 @@ use Rattle.rules.specs.Schedule.{Schedule}
 use Rattle.rules.specs.declared.Crew.{Crew}
 use Rattle.rules.specs.Connected.{Connected}
 use Rattle.rules.proofs.laws.Progress as progress
+use Rattle.rules.specs.laws.Standing as standing
 use Rattle.rules.proofs.laws.Rows.{rows_all, memo-all, memo-only, memo-once}
 use Rattle.pairs.specs.UniqueLaws.{once-at}
 use Rattle.rules.specs.Estimate.{estimate}
@@ -199,7 +200,7 @@ module _ (q : Query) (sound : Sound q) {old_costs old_outers old_methods : List 
           let x : index_of (memo q.graph) (single t) ≡ r = index_at (memo q.graph) (memo-once q.graph) r (single t) h (memo-one q.graph r l ∙ ap single e) in
           rw x (λ z. record { cost = cost-one r l z; outer = no_outer r h z; method = no-method r h z })
 
-      none : (S : ℕ) → Connected q.graph S → 1 < size S → row_in q.graph c S ≡ progress.unset
+      none : (S : ℕ) → Connected q.graph S → 1 < size S → row_in q.graph c S ≡ standing.unset
       none S d l =
           let i = in-at 0 (memo q.graph) S (memo-all q.graph S d) in
           let r = i.0 in
@@ -285,7 +286,7 @@ methods-of q z =
 
 -- with the sets that the group reads final, as `Final` and `Standing` say, a turn of it may be taken
 pub board-of : {q : Query} {sets estimates cells starts cell_starts : List ℕ} {group : Group} {c : Columns} → Prepared q sets estimates cells starts cell_starts → Fit q.graph group → top_of group ≤ table_count q.graph → Reach q.graph c
-    → ((S : ℕ) → Connected q.graph S → size S ≤ top_of group → progress.FinalRow q S (row_in q.graph c S))
+    → ((S : ℕ) → Connected q.graph S → size S ≤ top_of group → standing.FinalRow q S (row_in q.graph c S))
     → Board q.graph q.fixed q.per_outer q.per_inner q.per_result sets estimates cells starts cell_starts group c
 board-of {q} {group = group} {c = c} p fit top reach final = record {
   graph = p.sound.graph;
@@ -303,5 +304,5 @@ board-of {q} {group = group} {c = c} p fit top reach final = record {
         let S = get_or (memo q.graph) r 0 in
         let d = memo-only q.graph S (at_in 0 (memo q.graph) r h) in
         let x : index_of (memo q.graph) S ≡ r = index_at (memo q.graph) (memo-once q.graph) r S h refl in
-        let f : progress.FinalRow q S (choice_in c r) = rw x at (final S d (row_small q.graph (top_of group) r h l)) in
+        let f : standing.FinalRow q S (choice_in c r) = rw x at (final S d (row_small q.graph (top_of group) r h l)) in
         least-below q p.sound S (get_or c.costs r 0) f.least

@@ -26,8 +26,8 @@ use Rattle.rules.specs.Offers.{Way, along, back, sides, Offered}
 use Rattle.rules.specs.laws.Choice.{Best, best-same}
 use Rattle.rules.specs.laws.Choice.{kept}
 use Rattle.rules.proofs.laws.Ways.{side-of, offered-same}
-use Rattle.rules.proofs.laws.Handed.{JoinablePair}
-use Rattle.rules.proofs.laws.Complete.{mine, met-joinable, apart-differ}
+use Rattle.rules.specs.laws.Standing.{JoinablePair, mine}
+use Rattle.rules.proofs.laws.Complete.{met-joinable, apart-differ}
 use Rattle.rows.specs.Sizes.{up_to}
 use Rattle.skips.specs.SizeRows.{SizeRows, InOrder, Stands}
 use Rattle.lookup.specs.FindLaws.{rows-sized, rows-in-order, rows-stand}

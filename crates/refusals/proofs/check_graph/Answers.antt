@@ -1,3 +1,4 @@
+use Rattle.std.proofs.Common.{ap, not}
 use Prim.Native.Nat.{◌*◌, ◌%◌, ◌^◌, ◌-◌}
 use lib.ListN.{length}
 use borrow.Author.Tests.{not-true, not-false}
@@ -29,11 +30,11 @@ returns-then-not-connected c =
     let f = c.first_bad_edge-edges in
     let a = c.args in
     let g = graph_of a.rows.now a.left.now a.right.now a.divisors.now in
-    graph-apart g f.result f.ensures c.if-edges-ne0.false (1 * 2 ^ (length a.rows.now) % 2 ^ 64 - 1) (full_is (length a.rows.now) c.requires.few-tables) c.connected.result c.connected.ensures (not-true _ c.if-not-connected.true-raw)
+    graph-apart g f.result f.ensures c.if-edges-ne0.false (1 * 2 ^ (length a.rows.now) % 2 ^ 64 - 1) (full_is (length a.rows.now) c.requires.few-tables) c.connected.result c.connected.ensures (not-true _ (ap not c.if-not-connected.true))
 
 pub returns : goal.returns
 returns c =
     let f = c.first_bad_edge-edges in
     let a = c.args in
     let g = graph_of a.rows.now a.left.now a.right.now a.divisors.now in
-    graph-whole g f.result f.ensures c.if-edges-ne0.false (1 * 2 ^ (length a.rows.now) % 2 ^ 64 - 1) (full_is (length a.rows.now) c.requires.few-tables) c.connected.result c.connected.ensures (not-false _ c.if-not-connected.false-raw)
+    graph-whole g f.result f.ensures c.if-edges-ne0.false (1 * 2 ^ (length a.rows.now) % 2 ^ 64 - 1) (full_is (length a.rows.now) c.requires.few-tables) c.connected.result c.connected.ensures (not-false _ (ap not c.if-not-connected.false))

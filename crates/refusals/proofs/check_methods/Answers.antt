@@ -1,3 +1,4 @@
+use Rattle.std.proofs.Common.{ap, not}
 use lib.ListN.{length}
 use Rattle.rules.specs.Limits.{methods_fit}
 use Rattle.rules.specs.Refusals.{bad_method}
@@ -9,11 +10,11 @@ returns-then-not-count_fits c =
     let a = c.args in
     let v = c.count_fits in
     let f = bad_method a.fixed.now a.outer.now a.inner.now a.res.now in
-    count-refused 3 (methods_fit (length a.fixed.now)) f (length a.fixed.now) v.result v.ensures c.if-not-count_fits.true-raw
+    count-refused 3 (methods_fit (length a.fixed.now)) f (length a.fixed.now) v.result v.ensures (ap not c.if-not-count_fits.true)
 
 pub returns : goal.returns
 returns c =
     let a = c.args in
     let v = c.count_fits in
     let f = bad_method a.fixed.now a.outer.now a.inner.now a.res.now in
-    count_fits 3 (methods_fit (length a.fixed.now)) f (length a.fixed.now) v.result v.ensures c.if-not-count_fits.false-raw c.first_bad_method.result c.first_bad_method.ensures
+    count_fits 3 (methods_fit (length a.fixed.now)) f (length a.fixed.now) v.result v.ensures (ap not c.if-not-count_fits.false) c.first_bad_method.result c.first_bad_method.ensures

@@ -1,3 +1,4 @@
+use Rattle.std.proofs.Common.{ap, not}
 use lib.ListN.{length}
 use Rattle.rules.specs.Limits.{tables_fit}
 use Rattle.rules.specs.Refusals.{bad_table}
@@ -9,11 +10,11 @@ returns-then-not-count_fits c =
     let a = c.args in
     let v = c.count_fits in
     let f = bad_table a.rows.now a.scans.now in
-    count-refused 1 (tables_fit (length a.rows.now)) f (length a.rows.now) v.result v.ensures c.if-not-count_fits.true-raw
+    count-refused 1 (tables_fit (length a.rows.now)) f (length a.rows.now) v.result v.ensures (ap not c.if-not-count_fits.true)
 
 pub returns : goal.returns
 returns c =
     let a = c.args in
     let v = c.count_fits in
     let f = bad_table a.rows.now a.scans.now in
-    count_fits 1 (tables_fit (length a.rows.now)) f (length a.rows.now) v.result v.ensures c.if-not-count_fits.false-raw c.first_bad_table.result c.first_bad_table.ensures
+    count_fits 1 (tables_fit (length a.rows.now)) f (length a.rows.now) v.result v.ensures (ap not c.if-not-count_fits.false) c.first_bad_table.result c.first_bad_table.ensures

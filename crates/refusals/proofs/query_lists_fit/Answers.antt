@@ -1,3 +1,4 @@
+use Rattle.std.proofs.Common.{ap, not}
 use mathlib.Core.Path.{◌∙◌}
 use mathlib.Core.List.{[], ◌∷◌}
 use lib.ListN.{length}
@@ -17,7 +18,7 @@ returns-then-not-all_are2 c =
     let v = c.all_are2 in
     let es = length a.right.now ∷ length a.divisors.now ∷ [] in
     let ms = length a.outer.now ∷ length a.inner.now ∷ length a.res.now ∷ [] in
-    same_not (length a.left.now) es ((length a.fixed.now ∷ ms) ∷ []) v.result v.ensures c.if-not-all_are2.true-raw ∙ first_on (length a.rows.now) (length a.scans.now) ((length a.left.now ∷ es) ∷ (length a.fixed.now ∷ ms) ∷ []) c.if-scans-rows.false
+    same_not (length a.left.now) es ((length a.fixed.now ∷ ms) ∷ []) v.result v.ensures (ap not c.if-not-all_are2.true) ∙ first_on (length a.rows.now) (length a.scans.now) ((length a.left.now ∷ es) ∷ (length a.fixed.now ∷ ms) ∷ []) c.if-scans-rows.false
 
 pub returns : goal.returns
 returns c =
@@ -26,4 +27,4 @@ returns c =
     let w = c.all_are3 in
     let es = length a.right.now ∷ length a.divisors.now ∷ [] in
     let ms = length a.outer.now ∷ length a.inner.now ∷ length a.res.now ∷ [] in
-    same-last (length a.fixed.now) ms w.result w.ensures ∙ same-on (length a.left.now) es ((length a.fixed.now ∷ ms) ∷ []) v.result v.ensures c.if-not-all_are2.false-raw ∙ first_on (length a.rows.now) (length a.scans.now) ((length a.left.now ∷ es) ∷ (length a.fixed.now ∷ ms) ∷ []) c.if-scans-rows.false
+    same-last (length a.fixed.now) ms w.result w.ensures ∙ same-on (length a.left.now) es ((length a.fixed.now ∷ ms) ∷ []) v.result v.ensures (ap not c.if-not-all_are2.false) ∙ first_on (length a.rows.now) (length a.scans.now) ((length a.left.now ∷ es) ∷ (length a.fixed.now ∷ ms) ∷ []) c.if-scans-rows.false

@@ -27,7 +27,7 @@ use Rattle.rules.specs.laws.Sets.{holds-apart, holds-some}
 use Rattle.rules.specs.laws.Connected.{joinable-sym}
 use Rattle.rules.specs.laws.Decide.{between?}
 use Rattle.rules.proofs.laws.Rows.{rows_all, rows-only, rows-once}
-use Rattle.rules.proofs.laws.Handed.{JoinablePair, among, Complete}
+use Rattle.rules.specs.laws.Standing.{JoinablePair, among, Complete, mine}
 use Rattle.rules.specs.laws.Shares.{One, owns-one}
 use Rattle.rules.specs.laws.Candidates.{Has, candidates-all, met_of, numbered-in, numbered_of, numbered-length, numbered-once, SameSets, Rising, candidates-apart, numbered-pair}
 use Rattle.rules.specs.laws.Turns.{Entries, Below, run-below, run-queues, counts-sum, sum_same}
@@ -106,11 +106,7 @@ joinable-swap d = record { driving-conn = d.inner-conn; inner-conn = d.driving-c
 
 -- ---- the turns of a group
 module _ (g : Graph) (crew : Crew) (group : Group) where
-  -- worker w has the candidate and may join it
-  unfoldable pub mine : ℕ → Numbered → Bool
-  mine w x = owns crew.scheme (length (met g group)) crew.workers w x && joinable g x.candidate
-
-  pub queue-mine : queue g crew group ≡ (λ w. keep (mine w) (met g group))
+  pub queue-mine : queue g crew group ≡ (λ w. keep (mine g crew group w) (met g group))
   unfolding queue share mine
   queue-mine = fun_ext (λ w. keep-both (owns crew.scheme (length (met g group)) crew.workers w) (λ (x : Numbered). joinable g x.candidate) (met g group))
 
@@ -121,7 +117,7 @@ module _ (g : Graph) (crew : Crew) (group : Group) where
       let r = numbered_of 0 (candidates g group) x i in
       owns-one crew.scheme (length (met g group)) crew.workers x l (omega (arith, r.2, numbered-length 0 (candidates g group))) (met_of (rows_of g) group x.candidate r.0).behind.row
 
-  pub mine-one : (x : Numbered) → joinable g x.candidate ≡ true → (o : One (λ w. owns crew.scheme (length (met g group)) crew.workers w x) crew.workers) → One (λ w. mine w x) crew.workers
+  pub mine-one : (x : Numbered) → joinable g x.candidate ≡ true → (o : One (λ w. owns crew.scheme (length (met g group)) crew.workers w x) crew.workers) → One (λ w. mine g crew group w x) crew.workers
   unfolding mine
   mine-one x j o = record {
     who = o.who;
@@ -130,7 +126,7 @@ module _ (g : Graph) (crew : Crew) (group : Group) where
     no_other = λ v e. o.no_other v (and-true-l (owns crew.scheme (length (met g group)) crew.workers v x) (joinable g x.candidate) e);
   }
 
-  mine-none : (x : Numbered) → joinable g x.candidate ≡ false → (w : ℕ) → mine w x ≡ false
+  mine-none : (x : Numbered) → joinable g x.candidate ≡ false → (w : ℕ) → mine g crew group w x ≡ false
   unfolding mine
   mine-none x j w = rw j (both_false (owns crew.scheme (length (met g group)) crew.workers w x))
     where
@@ -139,7 +135,7 @@ module _ (g : Graph) (crew : Crew) (group : Group) where
       both_false false = refl
 
   module _ {ts u : List ℕ} {h : List (Hand Numbered)} (workers : 0 < crew.workers) (t : Entries crew.workers ts) (run : Run crew.workers (queue g crew group) ts h u) where
-    run-mine : Run crew.workers (λ w. keep (mine w) (met g group)) ts h u
+    run-mine : Run crew.workers (λ w. keep (mine g crew group w) (met g group)) ts h u
     run-mine = rw queue-mine at run
 
     -- each worker hands ITS QUEUE, IN ORDER
@@ -149,19 +145,19 @@ module _ (g : Graph) (crew : Crew) (group : Group) where
     -- each joinable candidate is handed BY ITS OWN WORKER
     pub hands-all : (x : Numbered) → Memᴰ x (met g group) → joinable g x.candidate ≡ true → (o : One (λ w. owns crew.scheme (length (met g group)) crew.workers w x) crew.workers) → HandedBy o.who x h
     unfolding mine-one
-    hands-all x i j o = run-all mine (met g group) run-mine x i (mine-one x j o)
+    hands-all x i j o = run-all (mine g crew group) (met g group) run-mine x i (mine-one x j o)
 
     -- so AS MANY PAIRS ARE HANDED as candidates are joinable
     pub hands-count : length h ≡ length (keep (λ (x : Numbered). joinable g x.candidate) (met g group))
     hands-count =
-        sym (counts-sum crew.workers h (run-below run-mine t)) ∙ sum_same (λ w. length (only w h)) (λ w. length (keep (mine w) (met g group))) crew.workers (λ w l. ap length (run-queues run-mine w l))
-        ∙ queues-total mine (λ (x : Numbered). joinable g x.candidate) crew.workers (met g group) (λ x i j. mine-one x j (met-one workers x i)) (λ x i j. mine-none x j)
+        sym (counts-sum crew.workers h (run-below run-mine t)) ∙ sum_same (λ w. length (only w h)) (λ w. length (keep (mine g crew group w) (met g group))) crew.workers (λ w l. ap length (run-queues run-mine w l))
+        ∙ queues-total (mine g crew group) (λ (x : Numbered). joinable g x.candidate) crew.workers (met g group) (λ x i j. mine-one x j (met-one workers x i)) (λ x i j. mine-none x j)
 
     -- NOTHING ELSE is handed, and by nobody else
     pub hands-only : (x : Hand Numbered) → Memᴰ x h → Memᴰ x.candidate (met g group) × (owns crew.scheme (length (met g group)) crew.workers x.worker x.candidate ≡ true) × (joinable g x.candidate.candidate ≡ true)
     unfolding mine
     hands-only x i =
-        let r = run_only mine (met g group) run-mine t x i in
+        let r = run_only (mine g crew group) (met g group) run-mine t x i in
         let a = owns crew.scheme (length (met g group)) crew.workers x.worker x.candidate in
         let b = joinable g x.candidate.candidate in
         (r.0, and-true-l a b r.1, and_true_r a b r.1)
@@ -169,7 +165,7 @@ module _ (g : Graph) (crew : Crew) (group : Group) where
     -- and nothing TWICE
     pub hands-once : Once (map (λ (x : Hand Numbered). x.candidate) h)
     unfolding mine met
-    hands-once = run-once mine (met g group) run-mine t (numbered-once 0 (candidates g group)) (λ v w x i a b.
+    hands-once = run-once (mine g crew group) (met g group) run-mine t (numbered-once 0 (candidates g group)) (λ v w x i a b.
         let o = met-one workers x i in
         o.no_other v (and-true-l (owns crew.scheme (length (met g group)) crew.workers v x) (joinable g x.candidate) a)
         ∙ sym (o.no_other w (and-true-l (owns crew.scheme (length (met g group)) crew.workers w x) (joinable g x.candidate) b)))

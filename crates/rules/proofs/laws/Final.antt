@@ -20,7 +20,7 @@ use Rattle.rules.specs.laws.Sets.{splits-size, size-pos}
 use Rattle.rules.specs.laws.Connected.{connected-join}
 use Rattle.rules.proofs.laws.Shapes.{fits-less}
 use Rattle.rules.proofs.laws.Rows.{size-count}
-use Rattle.rules.proofs.laws.Handed.{JoinablePair, among, Complete}
+use Rattle.rules.specs.laws.Standing.{JoinablePair, among, Complete}
 use Rattle.rules.specs.laws.Turns.{Entries}
 use Rattle.rules.proofs.laws.Complete.{InGroup, swap, joinable-swap, From, queues, hands-once, sized_of, entries-left, map-append, groups-from, groups-complete, Earlier, groups-earlier}
 use Rattle.rules.proofs.laws.Ways.{sides-are}

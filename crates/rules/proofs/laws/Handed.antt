@@ -4,82 +4,57 @@ use Rattle.std.proofs.Common.{sym, ap, ◌∙◌, inl, inr, ⊎_elim, add_comm, 
 use mathlib.Core.List.{List, Memᴰ}
 use Rattle.rules.specs.Offers.{Pair, union, Way, along, back, Choice, Priced, join_cost, Offers}
 use Rattle.rules.specs.laws.Choice.{NoLater, Best, Either, best-same, best-keep, best-take, best-unique}
-use Rattle.rules.specs.Query.{Graph, Query, method_count}
+use Rattle.rules.specs.Query.{Query, method_count}
 use Rattle.rules.specs.Connected.{Connected}
 use Rattle.rules.specs.Trees.{Joinable, Inner, Least}
 use Rattle.rules.specs.Log.{Prices, Stands}
 use Rattle.rules.specs.laws.Connected.{joinable-sym}
 use Rattle.rules.proofs.laws.Bellman.{Offer, least-unique}
 use Rattle.rules.proofs.laws.Ways.{along-in, back_in, way_of, offered-same}
-
--- what makes a pair joinable
-pub record JoinablePair (g : Graph) (p : Pair) : Type 0 where
-  pub driving-conn : Connected g p.driving
-  pub inner-conn : Connected g p.inner
-  pub joinable : Joinable g p.driving p.inner
-
--- the pairs of a list
-abbrev pub among : List Pair → Pair → Type 0
-among h p = Memᴰ p h
-
--- the pairs P and one more
-abbrev pub With : (Pair → Type 0) → Pair → Pair → Type 0
-With P p p' = P p' ⊎ (p' ≡ p)
-
--- the pairs P are those of S, each one way round; where an inner part must fit the shape, those that have one which does
-pub record Complete (q : Query) (P : Pair → Type 0) (S : ℕ) : Type 0 where
-  pub sound : (p : Pair) → P p → union p ≡ S → JoinablePair q.graph p
-  pub total : (p : Pair) → JoinablePair q.graph p → Inner q p.inner → union p ≡ S → P p ⊎ P (record { driving = p.inner; inner = p.driving })
+use Rattle.rules.specs.laws.Standing.{JoinablePair, among, With, Complete, Handed}
 
 module _ (q : Query) (best : ℕ → ℕ) where
-  -- k was priced for S by one of the pairs P, those handed so far
-  pub record Handed (P : Pair → Type 0) (S : ℕ) (k : Choice) : Type 0 where
-    pub pair : Pair
-    pub handed : P pair
-    pub whole : union pair ≡ S
-    pub prices : Offers q best pair k
-
   -- only which pairs were handed counts
-  pub handed-same : {P Q : Pair → Type 0} {S : ℕ} {k : Choice} → ((p : Pair) → P p → Q p) → ((p : Pair) → Q p → P p) → Best (Handed P S) k → Best (Handed Q S) k
+  pub handed-same : {P Q : Pair → Type 0} {S : ℕ} {k : Choice} → ((p : Pair) → P p → Q p) → ((p : Pair) → Q p → P p) → Best (Handed q best P S) k → Best (Handed q best Q S) k
   handed-same {P} {Q} {S} to from b = best-same (move to) (move from) b
     where
-      move : {P Q : Pair → Type 0} → ((p : Pair) → P p → Q p) → (k : Choice) → Handed P S k → Handed Q S k
+      move : {P Q : Pair → Type 0} → ((p : Pair) → P p → Q p) → (k : Choice) → Handed q best P S k → Handed q best Q S k
       move f k o = record { pair = o.pair; handed = f o.pair o.handed; whole = o.whole; prices = o.prices }
 
   -- the row of S after one more pair, whose result it is
   module _ (P : Pair → Type 0) (p : Pair) where
-    to : (k : Choice) → Either (Handed P (union p)) (Offers q best p) k → Handed (With P p) (union p) k
+    to : (k : Choice) → Either (Handed q best P (union p)) (Offers q best p) k → Handed q best (With P p) (union p) k
     to k (inl o) = record { pair = o.pair; handed = inl o.handed; whole = o.whole; prices = o.prices }
     to k (inr o) = record { pair = p; handed = inr refl; whole = refl; prices = o }
 
-    from : (k : Choice) → Handed (With P p) (union p) k → Either (Handed P (union p)) (Offers q best p) k
+    from : (k : Choice) → Handed q best (With P p) (union p) k → Either (Handed q best P (union p)) (Offers q best p) k
     from k o = pick o.handed
       where
-        pick : P o.pair ⊎ (o.pair ≡ p) → Either (Handed P (union p)) (Offers q best p) k
+        pick : P o.pair ⊎ (o.pair ≡ p) → Either (Handed q best P (union p)) (Offers q best p) k
         pick (inl m) = inl (record { pair = o.pair; handed = m; whole = o.whole; prices = o.prices })
         pick (inr e) = inr (rw e at o.prices)
 
     -- the first pair of its result
-    pub row_first : {b : Choice} → ((k : Choice) → Handed P (union p) k → ⊥) → Best (Offers q best p) b → Best (Handed (With P p) (union p)) b
+    pub row_first : {b : Choice} → ((k : Choice) → Handed q best P (union p) k → ⊥) → Best (Offers q best p) b → Best (Handed q best (With P p) (union p)) b
     row_first {b} none n = record { among = to b (inr n.among); first = λ k o. ⊎_elim (λ x. absurd (none k x)) (n.first k) (from k o) }
 
-    pub row_keep : {a b : Choice} → Best (Handed P (union p)) a → Best (Offers q best p) b → NoLater a b → Best (Handed (With P p) (union p)) a
+    pub row_keep : {a b : Choice} → Best (Handed q best P (union p)) a → Best (Offers q best p) b → NoLater a b → Best (Handed q best (With P p) (union p)) a
     row_keep r n le = best-same to from (best-keep r n le)
 
-    pub row-take : {a b : Choice} → Best (Handed P (union p)) a → Best (Offers q best p) b → NoLater b a → Best (Handed (With P p) (union p)) b
+    pub row-take : {a b : Choice} → Best (Handed q best P (union p)) a → Best (Offers q best p) b → NoLater b a → Best (Handed q best (With P p) (union p)) b
     row-take r n le = best-same to from (best-take r n le)
 
     -- every other row stays
-    pub row_other : {S : ℕ} {a : Choice} → (union p ≡ S → ⊥) → Best (Handed P S) a → Best (Handed (With P p) S) a
+    pub row_other : {S : ℕ} {a : Choice} → (union p ≡ S → ⊥) → Best (Handed q best P S) a → Best (Handed q best (With P p) S) a
     row_other {S} {a} ne r = best-same up down r
       where
-        up : (k : Choice) → Handed P S k → Handed (With P p) S k
+        up : (k : Choice) → Handed q best P S k → Handed q best (With P p) S k
         up k o = record { pair = o.pair; handed = inl o.handed; whole = o.whole; prices = o.prices }
 
-        down : (k : Choice) → Handed (With P p) S k → Handed P S k
+        down : (k : Choice) → Handed q best (With P p) S k → Handed q best P S k
         down k o = pick o.handed
           where
-            pick : P o.pair ⊎ (o.pair ≡ p) → Handed P S k
+            pick : P o.pair ⊎ (o.pair ≡ p) → Handed q best P S k
             pick (inl m) = record { pair = o.pair; handed = m; whole = o.whole; prices = o.prices }
             pick (inr e) = absurd (ne (ap (λ (r : Pair). union r) (sym e) ∙ o.whole))
 
@@ -97,7 +72,7 @@ module _ (q : Query) (best : ℕ → ℕ) where
   }
 
   module _ (P : Pair → Type 0) (S : ℕ) (all : Complete q P S) where
-    to-offer : (k : Choice) → Handed P S k → Offer q best S k
+    to-offer : (k : Choice) → Handed q best P S k → Offer q best S k
     to-offer k o = pick r.0 r.1
       where
         D : ℕ
@@ -122,22 +97,22 @@ module _ (q : Query) (best : ℕ → ℕ) where
         pick (inl e) f = offer-of j.driving-conn j.inner-conn j.joinable (rw e at f) o.whole (priced (along o.pair) e)
         pick (inr e) f = offer-of j.inner-conn j.driving-conn (joinable-sym j.joinable) (rw e at f) (add_comm I D ∙ o.whole) (priced (back o.pair) e)
 
-    from-offer : (k : Choice) → Offer q best S k → Handed P S k
+    from-offer : (k : Choice) → Offer q best S k → Handed q best P S k
     from-offer k o = pick (all.total (record { driving = k.outer; inner = o.other }) (record { driving-conn = o.outer-conn; inner-conn = o.inner-conn; joinable = o.joinable }) o.shaped o.whole)
       where
         priced : Priced (method_count q) (join_cost q best) k.outer o.other k
         priced = record { outer = refl; from_one = o.method.from_one; to-count = o.method.to-count; costs = o.costs }
 
-        pick : P (record { driving = k.outer; inner = o.other }) ⊎ P (record { driving = o.other; inner = k.outer }) → Handed P S k
+        pick : P (record { driving = k.outer; inner = o.other }) ⊎ P (record { driving = o.other; inner = k.outer }) → Handed q best P S k
         pick (inl m) = record { pair = _; handed = m; whole = o.whole; prices = record { way = _; offered = along-in q.shape (record { driving = k.outer; inner = o.other }) o.shaped; priced = priced } }
         pick (inr m) = record { pair = _; handed = m; whole = add_comm o.other k.outer ∙ o.whole; prices = record { way = _; offered = back_in q.shape (record { driving = o.other; inner = k.outer }) o.shaped; priced = priced } }
 
     -- ORDER INDEPENDENCE: once all pairs of S are handed, in whatever order, the row is the best over all splits of S
-    pub row-final : {k : Choice} → Best (Handed P S) k → Best (Offer q best S) k
+    pub row-final : {k : Choice} → Best (Handed q best P S) k → Best (Offer q best S) k
     row-final = best-same to-offer from-offer
 
   -- two complete runs leave the same row
-  pub rows_agree : {S : ℕ} {P P' : Pair → Type 0} {k k' : Choice} → Complete q P S → Complete q P' S → Best (Handed P S) k → Best (Handed P' S) k' → k ≡ k'
+  pub rows_agree : {S : ℕ} {P P' : Pair → Type 0} {k k' : Choice} → Complete q P S → Complete q P' S → Best (Handed q best P S) k → Best (Handed q best P' S) k' → k ≡ k'
   rows_agree {S} {P} {P'} a a' r r' = best-unique (row-final P S a r) (row-final P' S a' r')
 
   -- ---- the row's cost is the log's standing cost, where `best` holds the least costs of the pairs' parts
@@ -158,7 +133,7 @@ module _ (q : Query) (best : ℕ → ℕ) where
         part w n (inl e) = rw (e, driving, inner) refl
         part w n (inr e) = rw (e, driving, inner) refl
 
-    pub row-stands : {S : ℕ} {k : Choice} → Best (Handed (among h) S) k → Stands q h S k.cost
+    pub row-stands : {S : ℕ} {k : Choice} → Best (Handed q best (among h) S) k → Stands q h S k.cost
     row-stands {S} {k} b = record {
       by = b.among.pair;
       handed = b.among.handed;

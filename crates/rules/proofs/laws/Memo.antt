@@ -11,7 +11,8 @@ use Rattle.rules.specs.Connected.{Connected}
 use Rattle.rules.specs.Trees.{Tree, scan, join, tables_of, Valid, cost_of, Least, Pick}
 use Rattle.rules.specs.laws.Connected.{one_table}
 use Rattle.rules.proofs.laws.Bellman.{Offer, bellman-least, bellman-pick, tables_of-pos}
-use Rattle.rules.proofs.laws.Handed.{Handed, Complete, row-final}
+use Rattle.rules.proofs.laws.Handed.{row-final}
+use Rattle.rules.specs.laws.Standing.{Handed, Complete}
 
 single_inj : (u t : ℕ) → 0 < u → 0 < t → single u ≡ single t → u ≡ t
 single_inj u t p r e = holds-single-only u t p (rw e (holds-single t r))

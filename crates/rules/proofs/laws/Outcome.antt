@@ -18,7 +18,7 @@ use Rattle.rules.specs.Query.{Query, IsMethod, table_count}
 use Rattle.rules.specs.Connected.{Connected}
 use Rattle.rules.specs.Estimate.{joins_at, divided, by_edges, by_lower, with_table, running, estimate}
 use Rattle.rules.specs.Trees.{fits, Inner, Least, price}
-use Rattle.rules.specs.Offers.{Pair, union, ways, Choice}
+use Rattle.rules.specs.Offers.{Pair, union, ways}
 use Rattle.rules.specs.Rows.{combos, sequences, rows_of, memo}
 use Rattle.rules.specs.Skips.{skip_from, vectors_from, vectors, skips}
 use Rattle.rules.specs.Candidates.{with_row, across, within, driven, candidates_of, candidates, joinable}
@@ -33,8 +33,9 @@ use Rattle.rules.specs.laws.Bools.{find}
 use Rattle.rules.specs.laws.Decide.{between?, connected?}
 use Rattle.rules.specs.laws.Lists.{at_in, at_map, length-map, over-length, over-spare, over-at}
 use Rattle.rules.proofs.laws.Rows.{memo-only, size-count}
-use Rattle.rules.proofs.laws.Handed.{JoinablePair, row-stands}
-use Rattle.rules.proofs.laws.Reference.{by_method, splits_at, offers_below, offers_of, row_of, scan_row, row-least, row-pick, pick_of, offers_by, offers_for, handed-best}
+use Rattle.rules.proofs.laws.Handed.{row-stands}
+use Rattle.rules.specs.laws.Standing.{JoinablePair, by_method, splits_at, offers_below, row_of, scan_row, pick_of, row_at, best_at}
+use Rattle.rules.proofs.laws.Reference.{offers_of, row-least, row-pick, offers_by, offers_for, handed-best}
 use Rattle.rules.specs.laws.Choice.{sooner, better, best_of}
 use Rattle.rules.specs.laws.Turns.{Entries, groups-exist}
 use Rattle.rules.proofs.laws.Schedule.{by-size}
@@ -42,15 +43,6 @@ use Rattle.rules.proofs.laws.Final.{plan-joinable, plan-shaped}
 use Rattle.rules.specs.laws.Refusals.{accepted, crew-named}
 
 -- ---- what computes
--- the row of S
-unfoldable pub row_at : Query → ℕ → Choice
-row_at q S = row_of q (suc (table_count q.graph)) S
-
--- the least cost of S
-unfoldable pub best_at : Query → ℕ → ℕ
-unfolding row_at
-best_at q S = (row_at q S).cost
-
 -- what the turns hand
 unfoldable pub hands_of : Input → Crew → List (Hand Numbered)
 hands_of i crew = (groups-exist crew.workers (queues_of i crew) 1 (table_count i.query.graph - 1) i.turns).0

@@ -16,7 +16,6 @@ use Rattle.rules.specs.Offers.{Pair, union, Way, along, back, Choice, join_cost,
 use Rattle.rules.specs.Candidates.{Candidate, candidates, joinable}
 use Rattle.rules.specs.Shares.{Numbered, numbered, met, owns}
 use Rattle.rules.specs.Checked.{Sound}
-use Rattle.rules.specs.Answers.{Row}
 use Rattle.rules.specs.laws.Bools.{and_true_r}
 use Rattle.rules.specs.laws.Sets.{size-pow}
 use Rattle.rules.specs.laws.Connected.{joinable-sym, connected-split, connected-single, one_table}
@@ -25,24 +24,14 @@ use Rattle.rules.proofs.laws.Rows.{size-count}
 use Rattle.rules.specs.laws.Choice.{NoLater, Best, best-same}
 use Rattle.rules.proofs.laws.Bellman.{least-unique, bellman-least, bellman-pick}
 use Rattle.rules.proofs.laws.Ways.{way_of, offered-same}
-use Rattle.rules.proofs.laws.Handed.{JoinablePair, With, Complete, Handed, handed-same, row_first, row_keep, row-take, row_other, row-final}
+use Rattle.rules.proofs.laws.Handed.{handed-same, row_first, row_keep, row-take, row_other, row-final}
+use Rattle.rules.specs.laws.Standing.{JoinablePair, With, Complete, Handed, mine, best_at, unset, Stood, FinalRow, Before, Sofar, Between, Standing}
 use Rattle.rules.proofs.laws.Memo.{one-least}
 use Rattle.rules.specs.laws.Choice.{better, better-first, better-one, kept}
 use Rattle.rules.specs.laws.Candidates.{Has, numbered-in, numbered_of}
-use Rattle.rules.proofs.laws.Complete.{mine, mine-one, met-one, true-joinable, met-joinable, met-sized, InGroup, swap, pair-met}
+use Rattle.rules.proofs.laws.Complete.{mine-one, met-one, true-joinable, met-joinable, met-sized, InGroup, swap, pair-met}
 use Rattle.rules.proofs.laws.Final.{early-total, reads-small, results-large}
-use Rattle.rules.proofs.laws.Outcome.{best_at, best-least}
-
--- a row that no pair was handed for
-abbrev pub unset : Choice
-unset = record { cost = 0; outer = 0; method = 0 }
-
--- the row of S is the best of what the pairs P offer, or unset where there are none
-abbrev pub Stood : Query → (Pair → Type 0) → ℕ → Choice → Type 0
-Stood q P S k = (((p : Pair) → P p → union p ≡ S → ⊥) × (k ≡ unset)) ⊎ Best (Handed q (best_at q) P S) k
-
-abbrev pub FinalRow : Query → ℕ → Choice → Type 0
-FinalRow q S k = Row q S k.cost k.outer k.method
+use Rattle.rules.proofs.laws.Outcome.{best-least}
 
 -- ---- one row
 offers-some : (q : Query) (p : Pair) (k : Choice) → JoinablePair q.graph p → Offers q (best_at q) p k → 0 < k.outer
@@ -100,47 +89,10 @@ number_is n (c ∷ cs) x y (mathlib.Core.List.Memᴰ.tail m) (mathlib.Core.List.
 number_is n (c ∷ cs) x y (mathlib.Core.List.Memᴰ.tail m) (mathlib.Core.List.Memᴰ.tail k) p = number_is (suc n) cs x y m k p
 
 -- ---- the memo as turns leave it
--- once the pairs P were handed: sets of at most k tables are final, each other row is the best of P for its set, or unset
-pub record Held (q : Query) (k : ℕ) (P : Pair → Type 0) (row : ℕ → Choice) : Type 0 where
-  pub final : (S : ℕ) → Connected q.graph S → size S ≤ k → FinalRow q S (row S)
-  pub rows : (S : ℕ) → Connected q.graph S → k < size S → Stood q P S (row S)
-
 module _ (q : Query) (crew : Crew) (groups : Schedule) where
-  -- a pair of a group before k
-  pub record Before (k : ℕ) (p : Pair) : Type 0 where
-    pub group : ℕ
-    pub from_one : 1 ≤ group
-    pub early : group < k
-    pub one : Numbered
-    pub stands : Memᴰ one (met q.graph (groups group))
-    pub joins : joinable q.graph one.candidate ≡ true
-    pub is : p ≡ sets_of one
-
-  -- a pair of group k that stands before its worker's place
-  pub record Passed (k : ℕ) (place : ℕ → ℕ) (p : Pair) : Type 0 where
-    pub worker : ℕ
-    pub known : worker < crew.workers
-    pub one : Numbered
-    pub stands : Memᴰ one (met q.graph (groups k))
-    pub before : one.number < place worker
-    pub own : mine q.graph crew (groups k) worker one ≡ true
-    pub is : p ≡ sets_of one
-
-  -- all pairs handed so far
-  abbrev pub Sofar : ℕ → (ℕ → ℕ) → Pair → Type 0
-  Sofar k place p = Before k p ⊎ Passed k place p
-
-  -- before group k opens
-  abbrev pub Between : ℕ → (ℕ → Choice) → Type 0
-  Between k row = Held q k (Before k) row
-
-  -- while it is open, with the workers at their places
-  abbrev pub Standing : ℕ → (ℕ → ℕ) → (ℕ → Choice) → Type 0
-  Standing k place row = Held q k (Sofar k place) row
-
   -- START: scans stand, all else is unset
   pub between_start : (row : ℕ → Choice) → ((t : ℕ) → IsTable q.graph t → row (single t) ≡ record { cost = at q.scans t; outer = 0; method = 0 })
-      → ((S : ℕ) → Connected q.graph S → 1 < size S → row S ≡ unset) → Between 1 row
+      → ((S : ℕ) → Connected q.graph S → 1 < size S → row S ≡ unset) → Between q crew groups 1 row
   between_start row scans none = record { final = final; rows = λ S c l. inl (λ p b u. omega (arith, b.from_one, b.early), none S c l) }
     where
       final : (S : ℕ) → Connected q.graph S → size S ≤ 1 → FinalRow q S (row S)
@@ -149,40 +101,40 @@ module _ (q : Query) (crew : Crew) (groups : Schedule) where
           subst (λ (X : ℕ). FinalRow q X (row X)) o.2 (rw (scans o.0 o.1) (record { least = one-least q o.0 o.1; one = λ u. (refl, refl); more = λ u. absurd (omega (arith, size-pow (o.0 - 1))) }))
 
   -- AFTER THE LAST GROUP every row is final
-  pub between-end : (k : ℕ) → table_count q.graph ≤ k → (row : ℕ → Choice) → Between k row → (S : ℕ) → Connected q.graph S → FinalRow q S (row S)
+  pub between-end : (k : ℕ) → table_count q.graph ≤ k → (row : ℕ → Choice) → Between q crew groups k row → (S : ℕ) → Connected q.graph S → FinalRow q S (row S)
   between-end k l row b S c = b.final S c (omega (arith, size-count q.graph S c))
 
   -- OPENING: each worker at its first joinable pair
   module _ (k : ℕ) (place : ℕ → ℕ) (first : (w : ℕ) → w < crew.workers → (x : Numbered) → Memᴰ x (met q.graph (groups k)) → mine q.graph crew (groups k) w x ≡ true → place w ≤ x.number) where
     -- nothing of the group is handed yet
-    pub sofar-open : (p : Pair) → Sofar k place p → Before k p
+    pub sofar-open : (p : Pair) → Sofar q crew groups k place p → Before q crew groups k p
     sofar-open p (inl x) = x
     sofar-open p (inr x) = absurd (omega (arith, x.before, first x.worker x.known x.one x.stands x.own))
 
-    pub standing-open : (row : ℕ → Choice) → Between k row → Standing k place row
+    pub standing-open : (row : ℕ → Choice) → Between q crew groups k row → Standing q crew groups k place row
     standing-open row b = record { final = b.final; rows = λ S c l. stood-same q (λ p x. inl x) sofar-open (b.rows S c l) }
 
-  pub before-joinable : (k : ℕ) (p : Pair) → Before k p → JoinablePair q.graph p
+  pub before-joinable : (k : ℕ) (p : Pair) → Before q crew groups k p → JoinablePair q.graph p
   before-joinable k p b = rw b.is (met-joinable q.graph (groups b.group) b.one b.stands b.joins)
 
   passed-joins : (k : ℕ) (w : ℕ) (x : Numbered) → mine q.graph crew (groups k) w x ≡ true → joinable q.graph x.candidate ≡ true
   unfolding mine
   passed-joins k w x e = and_true_r (owns crew.scheme (length (met q.graph (groups k))) crew.workers w x) (joinable q.graph x.candidate) e
 
-  pub sofar-joinable : (k : ℕ) (place : ℕ → ℕ) (p : Pair) → Sofar k place p → JoinablePair q.graph p
+  pub sofar-joinable : (k : ℕ) (place : ℕ → ℕ) (p : Pair) → Sofar q crew groups k place p → JoinablePair q.graph p
   sofar-joinable k place p (inl b) = before-joinable k p b
   sofar-joinable k place p (inr x) = rw x.is (met-joinable q.graph (groups k) x.one x.stands (passed-joins k x.worker x.one x.own))
 
   -- a group that is done is one of those before the next
   module _ (k : ℕ) (one : 1 ≤ k) (place : ℕ → ℕ) where
-    pub sofar-before : (p : Pair) → Sofar k place p → Before (suc k) p
+    pub sofar-before : (p : Pair) → Sofar q crew groups k place p → Before q crew groups (suc k) p
     sofar-before p (inl b) = record { group = b.group; from_one = b.from_one; early = omega (arith, b.early); one = b.one; stands = b.stands; joins = b.joins; is = b.is }
     sofar-before p (inr x) = record { group = k; from_one = one; early = omega arith; one = x.one; stands = x.stands; joins = passed-joins k x.worker x.one x.own; is = x.is }
 
-    pub before-sofar : 0 < crew.workers → ((w : ℕ) → w < crew.workers → (x : Numbered) → Memᴰ x (met q.graph (groups k)) → mine q.graph crew (groups k) w x ≡ true → x.number < place w) → (p : Pair) → Before (suc k) p → Sofar k place p
+    pub before-sofar : 0 < crew.workers → ((w : ℕ) → w < crew.workers → (x : Numbered) → Memᴰ x (met q.graph (groups k)) → mine q.graph crew (groups k) w x ≡ true → x.number < place w) → (p : Pair) → Before q crew groups (suc k) p → Sofar q crew groups k place p
     before-sofar workers last p b = go (dec_lt b.group k)
       where
-        go : Dec (b.group < k) → Sofar k place p
+        go : Dec (b.group < k) → Sofar q crew groups k place p
         go (yes l) = inl (record { group = b.group; from_one = b.from_one; early = l; one = b.one; stands = b.stands; joins = b.joins; is = b.is })
         go (no z) =
             let e : b.group ≡ k = omega (arith, b.early) in
@@ -194,7 +146,7 @@ module _ (q : Query) (crew : Crew) (groups : Schedule) where
   module _ (k : ℕ) (place place' : ℕ → ℕ) (w : ℕ) (worker : w < crew.workers) (x : Numbered) (stands : Memᴰ x (met q.graph (groups k))) (own : mine q.graph crew (groups k) w x ≡ true) (here : x.number ≡ place w) (after : place w < place' w)
       (next : (y : Numbered) → Memᴰ y (met q.graph (groups k)) → mine q.graph crew (groups k) w y ≡ true → place w < y.number → place' w ≤ y.number) (others : (v : ℕ) → (v ≡ w → ⊥) → place' v ≡ place v) where
     -- the pairs handed so far are one more
-    pub sofar-more : (p' : Pair) → With (Sofar k place) (sets_of x) p' → Sofar k place' p'
+    pub sofar-more : (p' : Pair) → With (Sofar q crew groups k place) (sets_of x) p' → Sofar q crew groups k place' p'
     sofar-more p' (inl (inl b)) = inl b
     sofar-more p' (inl (inr y)) = inr (record { worker = y.worker; known = y.known; one = y.one; stands = y.stands; before = go (ℕ_discrete y.worker w); own = y.own; is = y.is })
       where
@@ -204,14 +156,14 @@ module _ (q : Query) (crew : Crew) (groups : Schedule) where
     sofar-more p' (inr e) = inr (record { worker = w; known = worker; one = x; stands = stands; before = omega arith; own = own; is = e })
 
     -- and no other
-    pub sofar-less : (p' : Pair) → Sofar k place' p' → With (Sofar k place) (sets_of x) p'
+    pub sofar-less : (p' : Pair) → Sofar q crew groups k place' p' → With (Sofar q crew groups k place) (sets_of x) p'
     sofar-less p' (inl b) = inl (inl b)
     sofar-less p' (inr y) = go (ℕ_discrete y.worker w)
       where
-        old : y.one.number < place y.worker → With (Sofar k place) (sets_of x) p'
+        old : y.one.number < place y.worker → With (Sofar q crew groups k place) (sets_of x) p'
         old l = inl (inr (record { worker = y.worker; known = y.known; one = y.one; stands = y.stands; before = l; own = y.own; is = y.is }))
 
-        go : Dec (y.worker ≡ w) → With (Sofar k place) (sets_of x) p'
+        go : Dec (y.worker ≡ w) → With (Sofar q crew groups k place) (sets_of x) p'
         go (no z) = old (omega (arith, others y.worker z, y.before))
         go (yes e) = at_place (dec_lt y.one.number (place w)) (dec_lt (place w) y.one.number)
           where
@@ -221,7 +173,7 @@ module _ (q : Query) (crew : Crew) (groups : Schedule) where
             g : place' y.worker ≡ place' w
             g = ap place' e
 
-            at_place : Dec (y.one.number < place w) → Dec (place w < y.one.number) → With (Sofar k place) (sets_of x) p'
+            at_place : Dec (y.one.number < place w) → Dec (place w < y.one.number) → With (Sofar q crew groups k place) (sets_of x) p'
             at_place (yes l) d = old (omega (arith, f))
             at_place (no z) (yes l) = absurd (omega (arith, g, y.before, next y.one y.stands (rw e at y.own) l))
             at_place (no z) (no u) =
@@ -230,7 +182,7 @@ module _ (q : Query) (crew : Crew) (groups : Schedule) where
 
   module _ (good : Sound q) (workers : 0 < crew.workers) (n : ℕ) (serves : Scheduled q.shape (table_count q.graph) n groups) where
     -- a joinable pair that a group before k meets
-    before-has : (k j X Y : ℕ) → 1 ≤ j → j < k → Joinable q.graph X Y → Has X Y (candidates q.graph (groups j)) → Before k (record { driving = X; inner = Y })
+    before-has : (k j X Y : ℕ) → 1 ≤ j → j < k → Joinable q.graph X Y → Has X Y (candidates q.graph (groups j)) → Before q crew groups k (record { driving = X; inner = Y })
     unfolding met
     before-has k j X Y l u d p =
         let i = numbered-in 0 (candidates q.graph (groups j)) p.one p.met in
@@ -239,27 +191,27 @@ module _ (q : Query) (crew : Crew) (groups : Schedule) where
         record { group = j; from_one = l; early = u; one = i.0; stands = i.1; joins = true-joinable q.graph i.0.candidate (rw (eX, eY) d); is = λ t. record { driving = sym eX t; inner = sym eY t } }
 
     -- of a set of at most k tables all pairs stand in the groups before k
-    before-complete : (k S : ℕ) → size S ≤ k → Complete q (Before k) S
-    before-complete k S l = record { sound = λ p b w. before-joinable k p b; total = early-total q crew workers n groups serves (Before k) k one_way S l }
+    before-complete : (k S : ℕ) → size S ≤ k → Complete q (Before q crew groups k) S
+    before-complete k S l = record { sound = λ p b w. before-joinable k p b; total = early-total q crew workers n groups serves (Before q crew groups k) k one_way S l }
       where
-        one_way : (j : ℕ) → 1 ≤ j → j < k → (p : Pair) → JoinablePair q.graph p → InGroup (groups j) p → Before k p ⊎ Before k (swap p)
+        one_way : (j : ℕ) → 1 ≤ j → j < k → (p : Pair) → JoinablePair q.graph p → InGroup (groups j) p → Before q crew groups k p ⊎ Before q crew groups k (swap p)
         one_way j a b p d i =
             ⊎_elim (λ h. inl (before-has k j p.driving p.inner a b d.joinable h)) (λ h. inr (before-has k j p.inner p.driving a b (joinable-sym d.joinable) h)) (pair-met q.graph (groups j) p d i)
 
     -- CLOSING: no worker has a pair left
     pub standing-closed : (k : ℕ) → 1 ≤ k → (place : ℕ → ℕ) (row : ℕ → Choice)
-        → ((w : ℕ) → w < crew.workers → (x : Numbered) → Memᴰ x (met q.graph (groups k)) → mine q.graph crew (groups k) w x ≡ true → x.number < place w) → Standing k place row → Between (suc k) row
+        → ((w : ℕ) → w < crew.workers → (x : Numbered) → Memᴰ x (met q.graph (groups k)) → mine q.graph crew (groups k) w x ≡ true → x.number < place w) → Standing q crew groups k place row → Between q crew groups (suc k) row
     standing-closed k one place row last s = record { final = λ S c l. final S c l (dec_lt k (size S)); rows = λ S c l. all S c (omega arith) }
       where
-        all : (S : ℕ) → Connected q.graph S → k < size S → Stood q (Before (suc k)) S (row S)
+        all : (S : ℕ) → Connected q.graph S → k < size S → Stood q (Before q crew groups (suc k)) S (row S)
         all S c l = stood-same q (sofar-before k one place) (before-sofar k one place workers last) (s.rows S c l)
 
         final : (S : ℕ) → Connected q.graph S → size S ≤ suc k → Dec (k < size S) → FinalRow q S (row S)
-        final S c l (yes u) = complete-final q good (Before (suc k)) S (row S) c (omega arith) (before-complete (suc k) S l) (all S c u)
+        final S c l (yes u) = complete-final q good (Before q crew groups (suc k)) S (row S) c (omega arith) (before-complete (suc k) S l) (all S c u)
         final S c l (no z) = s.final S c (omega arith)
 
     -- A TURN: worker w hands the candidate x at its place
-    module _ (k : ℕ) (from_one : 1 ≤ k) (known : k ≤ n) (place place' : ℕ → ℕ) (row row' : ℕ → Choice) (s : Standing k place row) (w : ℕ) (worker : w < crew.workers) (x : Numbered) (stands : Memᴰ x (met q.graph (groups k)))
+    module _ (k : ℕ) (from_one : 1 ≤ k) (known : k ≤ n) (place place' : ℕ → ℕ) (row row' : ℕ → Choice) (s : Standing q crew groups k place row) (w : ℕ) (worker : w < crew.workers) (x : Numbered) (stands : Memᴰ x (met q.graph (groups k)))
         (own : mine q.graph crew (groups k) w x ≡ true) (here : x.number ≡ place w) (after : place w < place' w)
         (next : (y : Numbered) → Memᴰ y (met q.graph (groups k)) → mine q.graph crew (groups k) w y ≡ true → place w < y.number → place' w ≤ y.number) (others : (v : ℕ) → (v ≡ w → ⊥) → place' v ≡ place v)
         (new : Choice) (offer : Best (Offers q (λ X. (row X).cost) (sets_of x)) new) (changed : row' (union (sets_of x)) ≡ kept (row (union (sets_of x))) new) (kept-rows : (S : ℕ) → (union (sets_of x) ≡ S → ⊥) → row' S ≡ row S) where
@@ -295,19 +247,19 @@ module _ (q : Query) (crew : Crew) (groups : Schedule) where
           from : (j : Choice) → Offers q (best_at q) p j → Offers q (λ X. (row X).cost) p j
           from = offered-same (λ v i m. sym (way v m (way_of q.shape p v i).0))
 
-      more : (p' : Pair) → With (Sofar k place) p p' → Sofar k place' p'
+      more : (p' : Pair) → With (Sofar q crew groups k place) p p' → Sofar q crew groups k place' p'
       more = sofar-more k place place' w worker x stands own here after next others
 
-      less : (p' : Pair) → Sofar k place' p' → With (Sofar k place) p p'
+      less : (p' : Pair) → Sofar q crew groups k place' p' → With (Sofar q crew groups k place) p p'
       less = sofar-less k place place' w worker x stands own here after next others
 
-      pub standing-turn : Standing k place' row'
+      pub standing-turn : Standing q crew groups k place' row'
       standing-turn = record { final = final; rows = λ S c l. rows S c l (ℕ_discrete (union p) S) }
         where
-          rows : (S : ℕ) → Connected q.graph S → k < size S → Dec (union p ≡ S) → Stood q (Sofar k place') S (row' S)
-          rows S c l (yes e) = subst (λ (X : ℕ). Stood q (Sofar k place') X (row' X)) e
-              (rw changed (stood-same q more less (inr (stood-turn q (Sofar k place) (sofar-joinable k place) p (subst (λ (X : ℕ). Stood q (Sofar k place) X (row X)) (sym e) (s.rows S c l)) offers))))
-          rows S c l (no z) = rw (kept-rows S z) (stood-same q more less (stood-other q (Sofar k place) (sofar-joinable k place) p z (s.rows S c l)))
+          rows : (S : ℕ) → Connected q.graph S → k < size S → Dec (union p ≡ S) → Stood q (Sofar q crew groups k place') S (row' S)
+          rows S c l (yes e) = subst (λ (X : ℕ). Stood q (Sofar q crew groups k place') X (row' X)) e
+              (rw changed (stood-same q more less (inr (stood-turn q (Sofar q crew groups k place) (sofar-joinable k place) p (subst (λ (X : ℕ). Stood q (Sofar q crew groups k place) X (row X)) (sym e) (s.rows S c l)) offers))))
+          rows S c l (no z) = rw (kept-rows S z) (stood-same q more less (stood-other q (Sofar q crew groups k place) (sofar-joinable k place) p z (s.rows S c l)))
 
           final : (S : ℕ) → Connected q.graph S → size S ≤ k → FinalRow q S (row' S)
           final S c l = rw (kept-rows S (λ e. omega (arith, large, ap size e))) (s.final S c l)

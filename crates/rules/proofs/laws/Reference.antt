@@ -23,44 +23,33 @@ use Rattle.rules.proofs.laws.Shapes.{single-fits}
 use Rattle.rules.specs.laws.Decide.{connected?, between?}
 use Rattle.rules.specs.laws.Choice.{Best, best-same, same, best_of, best_of-best}
 use Rattle.rules.proofs.laws.Bellman.{Offer, bellman-least, bellman-pick}
-use Rattle.rules.proofs.laws.Handed.{among, Handed}
+use Rattle.rules.specs.laws.Standing.{among, Handed, by_method, splits_at, offers_below, pick_of, scan_row, row_of}
 use Rattle.rules.proofs.laws.Ways.{back_in}
 use Rattle.rules.proofs.laws.Memo.{one-least}
 
 -- ---- all offers of a set
 module _ (q : Query) (best : ℕ → ℕ) where
-  unfoldable pub by_method : ℕ → ℕ → ℕ → List Choice
-  by_method X Y zero = []
-  by_method X Y (suc m) = record { cost = best X + best Y + price q X Y (suc m); outer = X; method = suc m } ∷ by_method X Y m
-
-  unfoldable pub splits_at : ℕ → ℕ → Bool
-  splits_at S X = is_yes (connected? q.graph X) && (is_yes (connected? q.graph (S - X)) && (fits q.shape (size (S - X)) && (eqb (bit_and X (S - X)) 0 && is_yes (between? q.graph X (S - X)))))
-
-  unfoldable pub offers_below : ℕ → ℕ → List Choice
-  offers_below S zero = []
-  offers_below S (suc X) = cond (splits_at S X) (by_method X (S - X) (method_count q)) [] ++ offers_below S X
-
-  method-in : (X Y n : ℕ) (k : Choice) → k.outer ≡ X → 1 ≤ k.method → k.method ≤ n → k.cost ≡ best X + best Y + price q X Y k.method → Memᴰ k (by_method X Y n)
+  method-in : (X Y n : ℕ) (k : Choice) → k.outer ≡ X → 1 ≤ k.method → k.method ≤ n → k.cost ≡ best X + best Y + price q X Y k.method → Memᴰ k (by_method q best X Y n)
   unfolding by_method
   method-in X Y zero k e l u c = absurd (omega arith)
   method-in X Y (suc n) k e l u c = go (ℕ_discrete k.method (suc n)) (λ u₁. method-in X Y n k e l u₁ c)
     where
-      go : Dec (k.method ≡ suc n) → (k.method ≤ n → Memᴰ k (by_method X Y n)) → Memᴰ k (by_method X Y (suc n))
+      go : Dec (k.method ≡ suc n) → (k.method ≤ n → Memᴰ k (by_method q best X Y n)) → Memᴰ k (by_method q best X Y (suc n))
       go (yes p) ih = mathlib.Core.List.Memᴰ.head (same (rw p at c) e p)
       go (no g) ih = mathlib.Core.List.Memᴰ.tail (ih (omega arith))
 
-  method-of : (X Y n : ℕ) (k : Choice) → Memᴰ k (by_method X Y n) → (k.outer ≡ X) × (1 ≤ k.method) × (k.method ≤ n) × (k.cost ≡ best X + best Y + price q X Y k.method)
+  method-of : (X Y n : ℕ) (k : Choice) → Memᴰ k (by_method q best X Y n) → (k.outer ≡ X) × (1 ≤ k.method) × (k.method ≤ n) × (k.cost ≡ best X + best Y + price q X Y k.method)
   unfolding by_method
   method-of X Y zero k m = absurd (mathlib.Core.List.Memᴰ.not-nil m)
   method-of X Y (suc n) k m = go (method-of X Y n k) (mathlib.Core.List.Memᴰ.cases_cons m)
     where
-      go : (Memᴰ k (by_method X Y n) → (k.outer ≡ X) × (1 ≤ k.method) × (k.method ≤ n) × (k.cost ≡ best X + best Y + price q X Y k.method))
-          → (k ≡ record { cost = best X + best Y + price q X Y (suc n); outer = X; method = suc n }) ⊎ Memᴰ k (by_method X Y n)
+      go : (Memᴰ k (by_method q best X Y n) → (k.outer ≡ X) × (1 ≤ k.method) × (k.method ≤ n) × (k.cost ≡ best X + best Y + price q X Y k.method))
+          → (k ≡ record { cost = best X + best Y + price q X Y (suc n); outer = X; method = suc n }) ⊎ Memᴰ k (by_method q best X Y n)
           → (k.outer ≡ X) × (1 ≤ k.method) × (k.method ≤ suc n) × (k.cost ≡ best X + best Y + price q X Y k.method)
       go ih (inl e) = rw e (refl, omega arith, le_refl (suc n), refl)
       go ih (inr m') = let r = ih m' in (r.0, r.1, omega (arith, r.2), r.3)
 
-  pub offers-in : (S n : ℕ) (k : Choice) → Offer q best S k → k.outer < n → Memᴰ k (offers_below S n)
+  pub offers-in : (S n : ℕ) (k : Choice) → Offer q best S k → k.outer < n → Memᴰ k (offers_below q best S n)
   unfolding offers_below splits_at
   offers-in S zero k o l = absurd (omega arith)
   offers-in S (suc n) k o l = go (ℕ_discrete k.outer n) (offers-in S n k o)
@@ -71,20 +60,20 @@ module _ (q : Query) (best : ℕ → ℕ) where
       e : S - X ≡ o.other
       e = omega (arith, o.whole)
 
-      test : splits_at S X ≡ true
+      test : splits_at q best S X ≡ true
       test = rw (e, true-yes (connected? q.graph X) o.outer-conn, true-yes (connected? q.graph o.other) o.inner-conn, o.shaped, eq-eqb (bit_and X o.other) 0 o.joinable.apart, true-yes (between? q.graph X o.other) o.joinable.between)
 
-      go : Dec (k.outer ≡ n) → (k.outer < n → Memᴰ k (offers_below S n)) → Memᴰ k (offers_below S (suc n))
+      go : Dec (k.outer ≡ n) → (k.outer < n → Memᴰ k (offers_below q best S n)) → Memᴰ k (offers_below q best S (suc n))
       go (yes p) ih =
-          let h : Memᴰ k (cond (splits_at S X) (by_method X (S - X) (method_count q)) []) =
+          let h : Memᴰ k (cond (splits_at q best S X) (by_method q best X (S - X) (method_count q)) []) =
           rw (test, e) (method-in X o.other (method_count q) k refl o.method.from_one o.method.to-count o.costs) in
-          mathlib.Core.List.Memᴰ.append_left (offers_below S n) (subst (λ (x : ℕ). Memᴰ k (cond (splits_at S x) (by_method x (S - x) (method_count q)) [])) p h)
-      go (no g) ih = mathlib.Core.List.Memᴰ.append_right (cond (splits_at S n) (by_method n (S - n) (method_count q)) []) (ih (omega arith))
+          mathlib.Core.List.Memᴰ.append_left (offers_below q best S n) (subst (λ (x : ℕ). Memᴰ k (cond (splits_at q best S x) (by_method q best x (S - x) (method_count q)) [])) p h)
+      go (no g) ih = mathlib.Core.List.Memᴰ.append_right (cond (splits_at q best S n) (by_method q best n (S - n) (method_count q)) []) (ih (omega arith))
 
-  pub offers-of : (S n : ℕ) (k : Choice) → n ≤ S → Memᴰ k (offers_below S n) → Offer q best S k
+  pub offers-of : (S n : ℕ) (k : Choice) → n ≤ S → Memᴰ k (offers_below q best S n) → Offer q best S k
   unfolding offers_below splits_at
   offers-of S zero k l m = absurd (mathlib.Core.List.Memᴰ.not-nil m)
-  offers-of S (suc n) k l m = go (offers-of S n k (omega arith)) (mathlib.Core.List.Memᴰ.append_cases (cond (splits_at S n) (by_method n (S - n) (method_count q)) []) m)
+  offers-of S (suc n) k l m = go (offers-of S n k (omega arith)) (mathlib.Core.List.Memᴰ.append_cases (cond (splits_at q best S n) (by_method q best n (S - n) (method_count q)) []) m)
     where
       t₁ : Bool
       t₁ = is_yes (connected? q.graph n)
@@ -101,7 +90,7 @@ module _ (q : Query) (best : ℕ → ℕ) where
       t₄ : Bool
       t₄ = is_yes (between? q.graph n (S - n))
 
-      made : splits_at S n ≡ true → Memᴰ k (by_method n (S - n) (method_count q)) → Offer q best S k
+      made : splits_at q best S n ≡ true → Memᴰ k (by_method q best n (S - n) (method_count q)) → Offer q best S k
       made t h =
           let r = method-of n (S - n) (method_count q) k h in
           let e = r.0 in
@@ -119,36 +108,25 @@ module _ (q : Query) (best : ℕ → ℕ) where
             costs = rw e r.3;
           }
 
-      pick : (splits_at S n ≡ true) ⊎ (splits_at S n ≡ false) → Memᴰ k (cond (splits_at S n) (by_method n (S - n) (method_count q)) []) → Offer q best S k
+      pick : (splits_at q best S n ≡ true) ⊎ (splits_at q best S n ≡ false) → Memᴰ k (cond (splits_at q best S n) (by_method q best n (S - n) (method_count q)) []) → Offer q best S k
       pick (inl t) h = made t (rw t at h)
       pick (inr t) h = absurd (mathlib.Core.List.Memᴰ.not-nil (rw t at h))
 
-      go : (Memᴰ k (offers_below S n) → Offer q best S k) → Memᴰ k (cond (splits_at S n) (by_method n (S - n) (method_count q)) []) ⊎ Memᴰ k (offers_below S n) → Offer q best S k
-      go ih (inl h) = pick (true-or-false (splits_at S n)) h
+      go : (Memᴰ k (offers_below q best S n) → Offer q best S k) → Memᴰ k (cond (splits_at q best S n) (by_method q best n (S - n) (method_count q)) []) ⊎ Memᴰ k (offers_below q best S n) → Offer q best S k
+      go ih (inl h) = pick (true-or-false (splits_at q best S n)) h
       go ih (inr h) = ih h
 
   -- a list's best is the best offer
-  pub best-offer : (S : ℕ) (k : Choice) (ks : List Choice) → offers_below S S ≡ k ∷ ks → Best (Offer q best S) (best_of k ks)
+  pub best-offer : (S : ℕ) (k : Choice) (ks : List Choice) → offers_below q best S S ≡ k ∷ ks → Best (Offer q best S) (best_of k ks)
   best-offer S k ks e = best-same (λ j m. offers-of S S j (le_refl S) (rw e m)) (λ j o. rw e at (offers-in S S j o (less j o))) (best_of-best k ks)
     where
       less : (j : Choice) → Offer q best S j → j.outer < S
       less j o = omega (arith, o.whole, o.inner-conn.some)
 
 -- ---- the rows, by recursion on the size
-unfoldable pub pick_of : List Choice → Choice
-pick_of [] = record { cost = 0; outer = 0; method = 0 }
-pick_of (k ∷ ks) = best_of k ks
-
 module _ (q : Query) where
-  unfoldable pub scan_row : ℕ → Choice
-  scan_row S = record { cost = at q.scans (find (has S) (table_count q.graph)); outer = 0; method = 0 }
-
-  unfoldable pub row_of : ℕ → ℕ → Choice
-  row_of zero S = scan_row S
-  row_of (suc n) S = cond (leb (size S) 1) (scan_row S) (pick_of (offers_below q (λ X. (row_of n X).cost) S S))
-
   module _ (me : IsMethod q 1) where
-    scan-least : (S : ℕ) → size S ≤ 1 → Connected q.graph S → Least q S (scan_row S).cost
+    scan-least : (S : ℕ) → size S ≤ 1 → Connected q.graph S → Least q S (scan_row q S).cost
     unfolding scan_row
     scan-least S l c =
         let o = one_table q.graph S l c in
@@ -189,21 +167,21 @@ module _ (q : Query) where
         go [] e = let o = some-offer best S c two in absurd (mathlib.Core.List.Memᴰ.not-nil (rw e at (offers-in q best S S o.0 o.1 (omega (arith, o.1.whole, o.1.inner-conn.some)))))
         go (k ∷ ks) e = best-offer q best S k ks e
 
-    pub row-least : (n S : ℕ) → size S ≤ n → Connected q.graph S → Least q S (row_of n S).cost
+    pub row-least : (n S : ℕ) → size S ≤ n → Connected q.graph S → Least q S (row_of q n S).cost
     unfolding row_of
     row-least zero S l c = scan-least S (omega arith) c
     row-least (suc n) S l c = go (true-or-false (leb (size S) 1)) (row-least n)
       where
-        go : (leb (size S) 1 ≡ true) ⊎ (leb (size S) 1 ≡ false) → ((Y : ℕ) → size Y ≤ n → Connected q.graph Y → Least q Y (row_of n Y).cost) → Least q S (row_of (suc n) S).cost
+        go : (leb (size S) 1 ≡ true) ⊎ (leb (size S) 1 ≡ false) → ((Y : ℕ) → size Y ≤ n → Connected q.graph Y → Least q Y (row_of q n Y).cost) → Least q S (row_of q (suc n) S).cost
         go (inl e) ih = rw e (scan-least S (leb-true (size S) 1 e) c)
         go (inr e) ih =
             let two : 2 ≤ size S = leb-false (size S) 1 e in
-            rw e (bellman-least q (λ X. (row_of n X).cost) S two (λ Y cy l₁. ih Y (omega arith) cy) (pick-offer (λ X. (row_of n X).cost) S c two))
+            rw e (bellman-least q (λ X. (row_of q n X).cost) S two (λ Y cy l₁. ih Y (omega arith) cy) (pick-offer (λ X. (row_of q n X).cost) S c two))
 
-    pub row-pick : (n S : ℕ) → size S ≤ suc n → Connected q.graph S → 2 ≤ size S → Pick q S (row_of (suc n) S).outer (row_of (suc n) S).method
+    pub row-pick : (n S : ℕ) → size S ≤ suc n → Connected q.graph S → 2 ≤ size S → Pick q S (row_of q (suc n) S).outer (row_of q (suc n) S).method
     unfolding row_of
     row-pick n S l c two = rw (lt-leb (size S) 1 two)
-        (bellman-pick q (λ X. (row_of n X).cost) S two (λ Y cy l₁. row-least n Y (omega arith) cy) (pick-offer (λ X. (row_of n X).cost) S c two))
+        (bellman-pick q (λ X. (row_of q n X).cost) S two (λ Y cy l₁. row-least n Y (omega arith) cy) (pick-offer (λ X. (row_of q n X).cost) S c two))
 
 -- ---- what pairs handed so far offer a set
 module _ (q : Query) (best : ℕ → ℕ) where

@@ -1,3 +1,4 @@
+use Rattle.std.proofs.Common.{ap, not}
 use native.Mathlib.Omega.{arith}
 use borrow.Author.Tests.{not-true, not-false}
 use Rattle.rules.specs.laws.Connected.{within_same}
@@ -13,12 +14,12 @@ returns-then-chosen-eq0 c =
 pub returns-then-not-overlap : goal.returns-then-not-overlap
 returns-then-not-overlap c =
     let overlap' = c.overlap in
-    grows-never c.args.near.now c.args.chosen c.args.around c.args.joined c.args.bit c.if-chosen-eq0.false (overlap-none c.args.around c.args.bit overlap'.result overlap'.ensures (not-true overlap'.result c.if-not-overlap.true-raw))
+    grows-never c.args.near.now c.args.chosen c.args.around c.args.joined c.args.bit c.if-chosen-eq0.false (overlap-none c.args.around c.args.bit overlap'.result overlap'.ensures (not-true overlap'.result (ap not c.if-not-overlap.true)))
 
 pub returns-then-joined : goal.returns-then-joined
 returns-then-joined c =
     let overlap' = c.overlap in
-    grows-linked c.args.near.now c.args.chosen c.args.around c.args.joined c.args.bit (overlap-some c.args.around c.args.bit overlap'.result overlap'.ensures (not-false overlap'.result c.if-not-overlap.false-raw)) c.if-joined.true
+    grows-linked c.args.near.now c.args.chosen c.args.around c.args.joined c.args.bit (overlap-some c.args.around c.args.bit overlap'.result overlap'.ensures (not-false overlap'.result (ap not c.if-not-overlap.false))) c.if-joined.true
 
 pub joins-requires : goal.joins-requires
 joins-requires c = (omega arith, omega arith, within_same _)

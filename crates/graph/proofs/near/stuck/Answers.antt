@@ -1,3 +1,4 @@
+use Rattle.std.proofs.Common.{ap, not}
 use mathlib.Core.Path.{refl}
 use native.Mathlib.Omega.{arith}
 use borrow.Author.Tests.{not-true}
@@ -13,7 +14,7 @@ returns-then-chosen-eq0 c =
 pub returns-then-not-overlap : goal.returns-then-not-overlap
 returns-then-not-overlap c =
     let overlap' = c.overlap in
-    stuck-closed c.args.near.now c.args.chosen c.args.around c.args.joined c.args.rest c.if-chosen-eq0.false (overlap-none c.args.around c.args.rest overlap'.result overlap'.ensures (not-true overlap'.result c.if-not-overlap.true-raw))
+    stuck-closed c.args.near.now c.args.chosen c.args.around c.args.joined c.args.rest c.if-chosen-eq0.false (overlap-none c.args.around c.args.rest overlap'.result overlap'.ensures (not-true overlap'.result (ap not c.if-not-overlap.true)))
 
 pub returns-then-joined : goal.returns-then-joined
 returns-then-joined c =
