@@ -30,6 +30,8 @@ def camel():
 
 def main():
     words = camel()
+    if not words:
+        return
     turn = {w: snake(w) for w in words}
     pattern = re.compile(r"(?<!\w)(" + "|".join(sorted(words, key=len, reverse=True)) + r")(?![A-Za-z0-9_])")
     if "--clashes" in sys.argv:
