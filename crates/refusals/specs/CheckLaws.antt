@@ -13,22 +13,20 @@ use Rattle.rules.specs.Lists.{is_yes}
 use Rattle.rules.specs.Sets.{full}
 use Rattle.rules.specs.Estimate.{joins_at}
 use Rattle.rules.specs.Checked.{GoodGraph}
-use Rattle.rules.specs.Refusals.{none, first_bad, first_of, all_are, all_same, groups, refuse, bad_table, bad_method, joined_below, repeats, edge_or, bad_edge, is_refused, bad_turn, checks_of}
+use Rattle.rules.specs.Refusals.{first_bad, first_of, all_are, all_same, groups, refuse, bad_table, bad_method, joined_below, repeats, edge_or, bad_edge, is_refused, bad_turn, checks_of}
 use Rattle.rules.specs.laws.Bools.{true-or-false, or-true-l, or_true_r}
 use Rattle.sets.specs.Laws.{shifted_one}
 use Rattle.query.specs.Lists.{same_pair}
 use Rattle.refusals.specs.Checks.{query_groups, table_number, method_number, table_checks, method_checks, graph_checks, crew_checks, TablesGood}
 use Rattle.rules.specs.laws.Refusals.{lengths-of, same_true, none-refuse, none-bad, range, table-true, edge-true, bad-step, bad-here, bad-end, SameLengths}
 use Rattle.rules.specs.laws.Decide.{connected?}
-use Rattle.rules.specs.declared.Verdict.{Verdict}
+use Rattle.rules.specs.Verdict.{Verdict, none}
 use Rattle.rules.specs.declared.Table.{Table}
-use Rattle.rules.specs.declared.NewTable.TheVariants.{Good as GoodTable, Over as OverTable}
 use Rattle.rules.specs.declared.Method.{Method}
-use Rattle.rules.specs.declared.NewMethod.TheVariants.{Good as GoodMethod, Over as OverMethod}
-use Rattle.rules.specs.declared.NewEdge.{NewEdge}
 use Rattle.rules.specs.declared.Crew.{Crew}
-use Rattle.rules.specs.declared.NewCrew.{NewCrew}
-use Rattle.rules.specs.declared.NewCrew.TheVariants.{Good as GoodCrew, Refused}
+use Rattle.std.specs.Prelude.{None, Option, Result, Some}
+use Rattle.rules.specs.declared.Edge.{Edge}
+use Rattle.rules.specs.declared.EdgeFault.{EdgeFault}
 
 -- ---- a loop over records 0 to n - 1, of which those before i are good
 module _ (f : ℕ → ℕ) (n : ℕ) where
@@ -50,7 +48,7 @@ module _ (f : ℕ → ℕ) (n : ℕ) where
     rest-none l = bad-end f i n l ∙ rest
 
 -- ---- one record
-table-cases : (t : Table) (b : Bool) → table_number (cond b (GoodTable t) OverTable) ≡ cond b 0 3
+table-cases : (t : Table) (b : Bool) → table_number (cond b (Some t) None) ≡ cond b 0 3
 table-cases t true = refl
 table-cases t false = refl
 
@@ -59,7 +57,7 @@ unfolding bad_table
 table-number rows scans i =
     table-cases (record { rows = get_or rows i 0; scan = get_or scans i 0 }) (table_fits (get_or rows i 0) (get_or scans i 0))
 
-method-cases : (m : Method) (b : Bool) → method_number (cond b (GoodMethod m) OverMethod) ≡ cond b 0 5
+method-cases : (m : Method) (b : Bool) → method_number (cond b (Some m) None) ≡ cond b 0 5
 method-cases m true = refl
 method-cases m false = refl
 
@@ -115,7 +113,7 @@ module _ (g : Graph) (i : ℕ) where
   repeats-none j h e = sym (rw e at h)
 
   -- the edge by itself, and then whether it repeats one
-  module _ (made : NewEdge) (is_made : made ≡ new_edge (table_count g) (get_or g.left i 0) (get_or g.right i 0) (get_or g.divisors i 0)) where
+  module _ (made : Result Edge EdgeFault) (is_made : made ≡ new_edge (table_count g) (get_or g.left i 0) (get_or g.right i 0) (get_or g.divisors i 0)) where
     pub edge-bad : (n : ℕ) → edge_number made ≡ suc n → suc n ≡ bad_edge g i
     unfolding bad_edge edge_or
     edge-bad n e = rw (← is_made, e)
@@ -226,20 +224,20 @@ module _ (n : ℕ) (b : Bool) (f : ℕ → ℕ) (k : ℕ) (fit : Bool) (is-fit :
   count_fits h v e = e ∙ bad_last f 0 k ∙ refused-on n b (first_bad f 0 k ∷ []) fit is-fit h
 
 -- ---- workers and scheme
-refused-false : (made : NewCrew) (c : Crew) → made ≡ GoodCrew c → is_refused made ≡ false
+refused-false : (made : Option Crew) (c : Crew) → made ≡ Some c → is_refused made ≡ false
 unfolding is_refused
 refused-false made c e = rw e
 
-refused-true : (made : NewCrew) → made ≡ Refused → is_refused made ≡ true
+refused-true : (made : Option Crew) → made ≡ None → is_refused made ≡ true
 unfolding is_refused
 refused-true made e = rw e
 
-module _ (workers scheme : ℕ) (turns : List ℕ) (made : NewCrew) (is_made : made ≡ new_crew workers scheme) where
-  pub crew-good : (c : Crew) → made ≡ GoodCrew c → (v : Verdict) → v ≡ first_bad (bad_turn workers turns) 0 (length turns) → v ≡ first_of (crew_checks workers scheme turns)
+module _ (workers scheme : ℕ) (turns : List ℕ) (made : Option Crew) (is_made : made ≡ new_crew workers scheme) where
+  pub crew-good : (c : Crew) → made ≡ Some c → (v : Verdict) → v ≡ first_bad (bad_turn workers turns) 0 (length turns) → v ≡ first_of (crew_checks workers scheme turns)
   unfolding first_of refuse
   crew-good c e v h = h ∙ bad_last (bad_turn workers turns) 0 (length turns) ∙ rw (← is_made, refused-false made c e)
 
-  pub crew-refused : made ≡ Refused → record { number = 11; place = 0 } ≡ first_of (crew_checks workers scheme turns)
+  pub crew-refused : made ≡ None → record { number = 11; place = 0 } ≡ first_of (crew_checks workers scheme turns)
   unfolding first_of refuse
   crew-refused e = rw (← is_made, refused-true made e)
 
