@@ -4,3 +4,4 @@
 
 pub mod connected;
 pub mod edges;
+pub mod lists;
