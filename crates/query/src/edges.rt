@@ -3,11 +3,10 @@ ghost use Rattle.std.specs.Prelude.{◌≡◌, ◌&&◌, ◌||◌, ◌≤◌};
 ghost use Rattle.rules.specs.Limits.{max_tables};
 ghost use Rattle.rules.specs.Lists.{is_yes};
 ghost use Rattle.rules.specs.Sets.{has};
-ghost use Rattle.rules.specs.Query.{graph_of};
-ghost use Rattle.rules.specs.Checked.{GoodGraph};
 ghost use Rattle.rules.specs.laws.Decide.{between?};
 ghost use Rattle.query.specs.Lists.{is_pair, same_pair};
 
+use super::graph::Graph;
 use sets::has_table;
 
 // Whether `x` and `y` are `a` and `b`, in this order.
@@ -54,26 +53,16 @@ fn crosses(x: u64, y: u64, a: u64, b: u64) -> bool
 
 // Whether an edge runs between `x` and `y`: from a table of the one to a table of the other. Most edges have their left table in neither,
 // and one test is enough for them.
-pub fn edge_between(
-    rows: &[u64],
-    left: &[u64],
-    right: &[u64],
-    divisors: &[u64],
-    x: u64,
-    y: u64,
-) -> bool
-    requires { GoodGraph (graph_of rows.now left.now right.now divisors.now) }
-    ensures { result ≡ is_yes (between? (graph_of rows.now left.now right.now divisors.now) x y) }
+pub fn edge_between(graph: &Graph, x: u64, y: u64) -> bool
+    ensures { result ≡ is_yes (between? graph.now x y) }
 {
     let either = x | y;
-    let mut i = 0;
-    while i < left.len() {
-        if has_table(either, left[i]) {
-            if crosses(x, y, left[i], right[i]) {
+    for i in 0..graph.left.len() {
+        if has_table(either, graph.left[i]) {
+            if crosses(x, y, graph.left[i], graph.right[i]) {
                 return true;
             }
         }
-        i += 1;
     }
     false
 }
