@@ -13,8 +13,8 @@ use Rattle.rules.specs.laws.Bools.{any, any_of, decide-is}
 use Rattle.rules.specs.laws.Decide.{crosses_in, between_in, between?, between-true, between-of}
 
 -- ---- an or whose left test says yes
-pub or_yes : (a b : Bool) {r : Bool} → r ≡ a → r ≡ true → true ≡ (a || b)
-or_yes a b e t = rw (sym e ∙ t)
+pub or_yes : (a b : Bool) {r : Bool} → r ≡ a → r ≡ true → r ≡ (a || b)
+or_yes a b e t = rw (sym e ∙ t) t
 
 -- ---- a search of the numbers from 0 on
 module _ (f : ℕ → Bool) where
