@@ -13,20 +13,14 @@ use sets::has_table;
 fn is_pair(x: u64, y: u64, a: u64, b: u64) -> bool
     ensures { result ≡ is_pair x y a b }
 {
-    if x == a {
-        return y == b;
-    }
-    false
+    x == a && y == b
 }
 
 // Whether `x` and `y` are `a` and `b`, whichever way round.
 pub fn same_pair(x: u64, y: u64, a: u64, b: u64) -> bool
     ensures { result ≡ same_pair x y a b }
 {
-    if is_pair(x, y, a, b) {
-        return true;
-    }
-    is_pair(x, y, b, a)
+    is_pair(x, y, a, b) || is_pair(x, y, b, a)
 }
 
 // Whether table `a` stands in `x` and table `b` in `y`.
@@ -34,10 +28,7 @@ pub fn both_stand(x: u64, a: u64, y: u64, b: u64) -> bool
     requires { (1 ≤ a) × (a ≤ max_tables) × (1 ≤ b) × (b ≤ max_tables) }
     ensures { result ≡ (has x a && has y b) }
 {
-    if has_table(x, a) {
-        return has_table(y, b);
-    }
-    false
+    has_table(x, a) && has_table(y, b)
 }
 
 // Whether an edge of the tables `a` and `b` runs between `x` and `y`, whichever way round it is written.
@@ -45,10 +36,7 @@ fn crosses(x: u64, y: u64, a: u64, b: u64) -> bool
     requires { (1 ≤ a) × (a ≤ max_tables) × (1 ≤ b) × (b ≤ max_tables) }
     ensures { result ≡ ((has x a && has y b) || (has x b && has y a)) }
 {
-    if both_stand(x, a, y, b) {
-        return true;
-    }
-    both_stand(x, b, y, a)
+    both_stand(x, a, y, b) || both_stand(x, b, y, a)
 }
 
 // Whether an edge runs between `x` and `y`: from a table of the one to a table of the other. Most edges have their left table in neither,
@@ -58,10 +46,8 @@ pub fn edge_between(graph: &Graph, x: u64, y: u64) -> bool
 {
     let either = x | y;
     for i in 0..graph.left.len() {
-        if has_table(either, graph.left[i]) {
-            if crosses(x, y, graph.left[i], graph.right[i]) {
-                return true;
-            }
+        if has_table(either, graph.left[i]) && crosses(x, y, graph.left[i], graph.right[i]) {
+            return true;
         }
     }
     false
