@@ -12,7 +12,7 @@ use rules::refusal::Reason;
 use rules::{Edge, Method, Table};
 
 // How many records of each kind stand in the lists, the kind of the latest line, and the crew once its line is read.
-#[derive(Clone, Copy)]
+#[derive(Clone, Copy, Default)]
 pub struct Progress {
     pub tables: usize,
     pub methods: usize,

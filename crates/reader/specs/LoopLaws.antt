@@ -81,27 +81,27 @@ pub record Reads (text rest : List ℕ) (place : ℕ) (p : Progress) (a b : Colu
   pub count : place + length rest ≤ length text + 1
   pub short : length text ≤ max_bytes
 
--- no reason has number 0
-number-some : (r : Reason) → number_of r ≡ 0 → ⊥
-number-some ListLengths e = omega arith
-number-some TableCount e = omega arith
-number-some TableOver e = omega arith
-number-some MethodCount e = omega arith
-number-some MethodOver e = omega arith
-number-some EdgeOutside e = omega arith
-number-some EdgeItself e = omega arith
-number-some EdgeDivisor e = omega arith
-number-some EdgeRepeated e = omega arith
-number-some Unconnected e = omega arith
-number-some CrewRange e = omega arith
-number-some TurnWorker e = omega arith
-number-some MemoRows e = omega arith
-number-some SkipCells e = omega arith
-number-some LineFields e = omega arith
-number-some LineNumber e = omega arith
-number-some LineOrder e = omega arith
-number-some TextEnd e = omega arith
-number-some LineExcess e = omega arith
+-- the numbers of reasons are 1 to 25
+pub number-within : (r : Reason) → (1 ≤ number_of r) × (number_of r ≤ 25)
+number-within ListLengths = (omega arith, omega arith)
+number-within TableCount = (omega arith, omega arith)
+number-within TableOver = (omega arith, omega arith)
+number-within MethodCount = (omega arith, omega arith)
+number-within MethodOver = (omega arith, omega arith)
+number-within EdgeOutside = (omega arith, omega arith)
+number-within EdgeItself = (omega arith, omega arith)
+number-within EdgeDivisor = (omega arith, omega arith)
+number-within EdgeRepeated = (omega arith, omega arith)
+number-within Unconnected = (omega arith, omega arith)
+number-within CrewRange = (omega arith, omega arith)
+number-within TurnWorker = (omega arith, omega arith)
+number-within MemoRows = (omega arith, omega arith)
+number-within SkipCells = (omega arith, omega arith)
+number-within LineFields = (omega arith, omega arith)
+number-within LineNumber = (omega arith, omega arith)
+number-within LineOrder = (omega arith, omega arith)
+number-within TextEnd = (omega arith, omega arith)
+number-within LineExcess = (omega arith, omega arith)
 
 -- a refusal is told by its reason and place
 told_as : (f : Refusal) (reason : Reason) (place : ℕ) → (f.reason ≡ reason) × (f.place ≡ place) → told f ≡ record { number = number_of reason; place = place }
@@ -153,15 +153,8 @@ module _ {text rest : List ℕ} {place : ℕ} {p : Progress} {a b : Columns} (r 
     pub line-in : e < length rest
     line-in = rw q (line-ends rest l r.last)
 
-    -- a place is small enough to count on
-    pub place-small : place ≤ max_bytes
-    place-small = omega (arith, r.count, r.short)
-
     abbrev after : List ℕ
     after = take (length rest - (e + 1)) (drop (e + 1) rest)
-
-    pub rest-falls : length after < length rest
-    rest-falls = omega (arith, line-in, after-length rest e q line-in)
 
     split : read_from place (read_of p b) (take e rest ∷ lines after) ≡ reading text
     split = ap (read_from place (read_of p b)) (sym (lines_next rest e q line-in)) ∙ r.goes
@@ -178,7 +171,7 @@ module _ {text rest : List ℕ} {place : ℕ} {p : Progress} {a b : Columns} (r 
     read-refused (Ok k) out s j m z = let w : Ok k ≡ Err s = sym m ∙ z in let w' : ◌≡◌ {A = ℕ} 0 1 = cc in absurd (omega arith)
     read-refused (Err reason) out s j m z =
         let d : ((s.refusal.reason ≡ reason) × (s.refusal.place ≡ place)) × (s.progress ≡ p) = rw z at m in
-        rw (told_as s.refusal reason place d.0, d.1) (sym (step-stop place (read_of p b) (take e rest) (lines after) (number_of reason) (is (number_of reason) j) (number-some reason)) ∙ split)
+        rw (told_as s.refusal reason place d.0, d.1) (sym (step-stop place (read_of p b) (take e rest) (lines after) (number_of reason) (is (number_of reason) j) (λ z. omega (arith, z, number-within reason))) ∙ split)
 
     pub reads-next : {k : Record} {m : Progress} {c : Columns} → Judged p (take e rest) (Ok k) → Stored k.kind k.cells p m b c → Reads text after (place + 1) m a c
     reads-next {k} {m} {c} j s =

@@ -1,7 +1,7 @@
 // The lines in a row: each good line's record goes to the columns of its kind.
 ghost use Rattle.std.specs.Prelude.{◌≡◌, false};
 ghost use Rattle.rules.specs.Reading.{excess, unfit, reading};
-ghost use Rattle.reader.specs.Records.{Within, Spare, progress_of, reading_of, no_line};
+ghost use Rattle.reader.specs.Records.{Within, Spare, progress_of, reading_of};
 ghost use Rattle.reader.specs.StoreLaws.{Stored};
 
 use fields::kinds::{Progress, Record, judge};
@@ -30,19 +30,6 @@ pub struct Columns {
 pub struct Stopped {
     pub refusal: Refusal,
     pub progress: Progress,
-}
-
-fn no_line() -> Progress
-    ensures { result ≡ no_line }
-{
-    Progress {
-        tables: 0,
-        methods: 0,
-        edges: 0,
-        latest: None,
-        workers: 0,
-        scheme: 0,
-    }
 }
 
 // 24: too long, or its last byte ends no line.
@@ -101,7 +88,7 @@ pub fn read(text: &[u8], columns: &mut Columns) -> Result<Progress, Stopped>
     ensures spare { Spare (progress_of result) columns.old columns.new }
     ensures within { Within (progress_of result) }
 {
-    let mut progress = no_line();
+    let mut progress = Progress::default();
     if is_unfit(text) {
         return Err(Stopped {
             refusal: Reason::TextEnd.at(0),

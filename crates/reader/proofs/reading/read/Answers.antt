@@ -6,10 +6,10 @@ use Rattle.reader.specs.LoopLaws.{read-unfit, reads-start, Refuses, read-refused
 use Rattle.reader.proofs.reading.read.Goals as goal
 
 pub returns-then-is_unfit-clause-read : goal.returns-then-is_unfit-clause-read
-returns-then-is_unfit-clause-read c = read-unfit c.args.text.now c.no_line-progress.result c.no_line-progress.ensures _ c.is_unfit.ensures c.args.columns.now c.at.result c.if-is_unfit.true c.at.ensures
+returns-then-is_unfit-clause-read c = read-unfit c.args.text.now c.default-progress.result (search rules) _ c.is_unfit.ensures c.args.columns.now c.at.result c.if-is_unfit.true c.at.ensures
 
 pub loop-rest-init : goal.loop-rest-init
-loop-rest-init c = reads-start c.args.text.now c.no_line-progress.result c.no_line-progress.ensures _ c.is_unfit.ensures c.args.columns.now c.if-is_unfit.false
+loop-rest-init c = reads-start c.args.text.now c.default-progress.result (search rules) _ c.is_unfit.ensures c.args.columns.now c.if-is_unfit.false
 
 pub returns-in_err-entry-clause-read : goal.returns-in_err-entry-clause-read
 returns-in_err-entry-clause-read c =
