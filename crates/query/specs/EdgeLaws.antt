@@ -12,18 +12,9 @@ use Rattle.rules.specs.Query.{Graph}
 use Rattle.rules.specs.laws.Bools.{any, any_of, decide-is}
 use Rattle.rules.specs.laws.Decide.{crosses_in, between_in, between?, between-true, between-of}
 
--- ---- tests, as early returns make them
-pub and_yes : (a b : Bool) {r x : Bool} → r ≡ a → r ≡ true → x ≡ b → x ≡ (a && b)
-and_yes a b e t f = rw (sym e ∙ t) f
-
-pub and_no : (a b : Bool) {r : Bool} → r ≡ a → r ≡ false → false ≡ (a && b)
-and_no a b e t = rw (sym e ∙ t)
-
-pub or_yes : (a b : Bool) {r : Bool} → r ≡ a → r ≡ true → true ≡ (a || b)
-or_yes a b e t = rw (sym e ∙ t)
-
-pub or_no : (a b : Bool) {r x : Bool} → r ≡ a → r ≡ false → x ≡ b → x ≡ (a || b)
-or_no a b e t f = rw (sym e ∙ t) f
+-- ---- an or whose left test says yes
+pub or_yes : (a b : Bool) {r : Bool} → r ≡ a → r ≡ true → r ≡ (a || b)
+or_yes a b e t = rw (sym e ∙ t) t
 
 -- ---- a search of the numbers from 0 on
 module _ (f : ℕ → Bool) where

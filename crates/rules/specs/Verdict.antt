@@ -31,6 +31,11 @@ number_of LineOrder = 23
 number_of TextEnd = 24
 number_of LineExcess = 25
 
+-- 01's number of what an answer says of one record, 0 for nothing
+abbrev pub number_in : {T : Type 0} → Result T Reason → ℕ
+number_in (Ok x) = 0
+number_in (Err reason) = number_of reason
+
 -- no refusal: number 0. "Place: the first such record or turn, counted from 0, else 0"
 abbrev pub none : Verdict
 none = record { number = 0; place = 0 }

@@ -15,10 +15,7 @@ pub mod refusal;
 fn in_range(low: u64, high: u64, n: u64) -> bool
     ensures { result ≡ in_range low high n }
 {
-    if low <= n {
-        return n <= high;
-    }
-    false
+    (low..=high).contains(&n)
 }
 
 #[derive(Clone, Copy)]
@@ -38,12 +35,10 @@ impl Table {
     pub fn new(rows: u64, scan: u64) -> Option<Table>
         ensures { result ≡ new_table rows scan }
     {
-        if rows <= Table::MAX_ROWS {
-            if scan <= Table::MAX_SCAN {
-                return Some(Table { rows, scan });
-            }
+        if rows > Table::MAX_ROWS || scan > Table::MAX_SCAN {
+            return None;
         }
-        None
+        Some(Table { rows, scan })
     }
 
     // A query may have this many tables.
@@ -79,10 +74,7 @@ impl Edge {
     pub fn new(count: u64, left: u64, right: u64, divisor: u64) -> Result<Edge, EdgeFault>
         ensures { result ≡ new_edge count left right divisor }
     {
-        if !in_range(1, count, left) {
-            return Err(EdgeFault::Outside);
-        }
-        if !in_range(1, count, right) {
+        if !in_range(1, count, left) || !in_range(1, count, right) {
             return Err(EdgeFault::Outside);
         }
         if left == right {
@@ -118,16 +110,11 @@ impl Method {
     pub fn new(fixed: u64, outer: u64, inner: u64, res: u64) -> Option<Method>
         ensures { result ≡ new_method fixed outer inner res }
     {
-        if Method::MAX_FIXED < fixed {
-            return None;
-        }
-        if Method::MAX_COEFFICIENT < outer {
-            return None;
-        }
-        if Method::MAX_COEFFICIENT < inner {
-            return None;
-        }
-        if Method::MAX_COEFFICIENT < res {
+        if fixed > Method::MAX_FIXED
+            || outer > Method::MAX_COEFFICIENT
+            || inner > Method::MAX_COEFFICIENT
+            || res > Method::MAX_COEFFICIENT
+        {
             return None;
         }
         Some(Method {

@@ -62,7 +62,7 @@ impl Reason {
 
     // The refusal for this reason of the record, turn or line at `place`; 0 where it is of none.
     pub fn at(self, place: u64) -> Refusal
-        ensures { (result.reason ≡ self) × (result.place ≡ place) }
+        ensures { result ≡ record { reason = self; place = place } }
     {
         Refusal {
             reason: self,

@@ -9,22 +9,23 @@ use Rattle.query.proofs.connected.connected.Goals as goal
 pub returns-then-s-eq0 : goal.returns-then-s-eq0
 returns-then-s-eq0 c = sym (empty-no _ _ c.if-s-eq0.true)
 
-pub returns-then-s-rows-ne0 : goal.returns-then-s-rows-ne0
-returns-then-s-rows-ne0 c = sym (unknown-no _ _ c.if-s-rows-ne0.true)
+pub returns-then-s-graph-ne0 : goal.returns-then-s-graph-ne0
+returns-then-s-graph-ne0 c = rw (← c.graph.view_is) (sym (unknown-no _ _ c.if-s-graph-ne0.true))
 
 pub lowest_table-requires : goal.lowest_table-requires
 lowest_table-requires c =
-    (omega (arith, c.if-s-eq0.false), omega (arith, small_of _ _ c.if-s-rows-ne0.false, pow_mono {i = length c.args.rows.now} {j = 32} (omega arith)))
+    (omega (arith, c.if-s-eq0.false), omega (arith, small_of _ _ c.if-s-graph-ne0.false, pow_mono {i = length c.graph.inside.rows.now} {j = 32} (omega arith)))
 
 pub single-part-requires : goal.single-part-requires
 single-part-requires c =
-    omega (arith, holds-lt (length c.args.rows.now) c.args.s c.lowest_table.result (small_of _ _ c.if-s-rows-ne0.false) c.lowest_table.ensures.stands)
+    omega (arith, holds-lt (length c.graph.inside.rows.now) c.args.s c.lowest_table.result (small_of _ _ c.if-s-graph-ne0.false) c.lowest_table.ensures.stands)
 
 pub loop-part-init : goal.loop-part-init
-loop-part-init c = rw c.single-part.ensures (part-start _ _ c.lowest_table.result (small_of _ _ c.if-s-rows-ne0.false) c.lowest_table.ensures)
+loop-part-init c =
+    rw (← c.graph.view_is, c.single-part.ensures) (part-start _ _ c.lowest_table.result (small_of _ _ c.if-s-graph-ne0.false) c.lowest_table.ensures)
 
 pub reach-next-requires : goal.reach-next-requires
-reach-next-requires c = record { good_graph = c.requires; part = c.loop-part.invariant }
+reach-next-requires c = c.loop-part.invariant
 
 pub returns-then-next-part : goal.returns-then-next-part
 returns-then-next-part c =
