@@ -42,4 +42,4 @@ digits-some n = by-some n n
 
 -- the tenth has room where the number has
 pub tenth-room : (a : Line) (n : ℕ) → 10 ≤ n → a.at + length (digits_of n) ≤ length a.out.now → a.at + length (digits_of (n / 10)) ≤ length a.out.now
-tenth-room a n h l = room-first (digits_of (n / 10)) ((zero_digit + n % 10) ∷ []) (room_of {a = a} (digits_more n h) l)
+tenth-room a n h l = room-first (digits_of (n / 10)) ((zero_digit + n % 10) ∷ []) (room_of a (digits_more n h) l)

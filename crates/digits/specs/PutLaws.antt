@@ -35,8 +35,8 @@ pub record Room (a : Line) (bytes : List ℕ) : Type 0 where
   pub left : a.at + length bytes ≤ length a.out.now
 
 -- room under another name
-pub room_of : {a : Line} {xs ys : List ℕ} → xs ≡ ys → a.at + length ys ≤ length a.out.now → Room a xs
-room_of e l = record { left = rw e l }
+pub room_of : (a : Line) {xs ys : List ℕ} → xs ≡ ys → a.at + length ys ≤ length a.out.now → Room a xs
+room_of a e l = record { left = rw e l }
 
 -- room for two runs is room for the first
 pub room-first : {a : Line} (xs ys : List ℕ) → Room a (xs ++ ys) → a.at + length xs ≤ length a.out.now

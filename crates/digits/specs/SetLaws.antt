@@ -106,7 +106,7 @@ table-room {a} {b} n S (suc i) l k p r =
     let e : suc i - 1 ≡ i = omega arith in
     let p' : Put a b (set_text i S) = rw e at p in
     let x = set_next a.at b.at i S p'.end in
-    (room-then (table_text S (suc i) (ltb a.at b.at)) p' (room_of x (omega (arith, set-le (suc i) n S k)))).left
+    (room-then (table_text S (suc i) (ltb a.at b.at)) p' (room_of _ x (omega (arith, set-le (suc i) n S k)))).left
 
 -- the loop's last turn
 pub set-done : {a b : Line} (n S t : ℕ) → t ≤ n + 1 → n < t → Put a b (set_text (t - 1) S) → Put a b (set_text n S)

@@ -10,8 +10,8 @@ put_number-requires t c = (omega (arith, c.decreases), tenth-room c.args.self.no
 pub put_byte-requires : goal.put_byte-requires
 put_byte-requires t c =
     elim c.if-n-ge10.branch [
-      | then-n-ge10 w ↦ rw w.self-is (room-then _ w.put_number.ensures (room_of (digits_more _ w.if-n-ge10.true) c.requires)).left
-      | else-n-ge10 w ↦ rw w.self-is (room_of {a = c.args.self.now} (digits-one _ w.if-n-ge10.false) c.requires).left
+      | then-n-ge10 w ↦ rw w.self-is (room-then _ w.put_number.ensures (room_of _ (digits_more _ w.if-n-ge10.true) c.requires)).left
+      | else-n-ge10 w ↦ rw w.self-is (room_of c.args.self.now (digits-one _ w.if-n-ge10.false) c.requires).left
     ]
 
 pub returns : goal.returns

@@ -11,13 +11,13 @@ returns-then-not-has_table c = put_as (table_none _ _ _ (sym c.has_table.ensures
 
 pub put_byte-requires : goal.put_byte-requires
 put_byte-requires c =
-    room-first (comma ∷ []) _ (room_of {a = c.args.self.now} (table-after c.args.set c.args.t c.args.start c.args.self.now.at (sym c.has_table.ensures ∙ c.if-not-has_table.false) c.if-self-start.true) c.requires.2)
+    room-first (comma ∷ []) _ (room_of c.args.self.now (table-after c.args.set c.args.t c.args.start c.args.self.now.at (sym c.has_table.ensures ∙ c.if-not-has_table.false) c.if-self-start.true) c.requires.2)
 
 pub put_number-requires : goal.put_number-requires
 put_number-requires c =
     elim c.if-self-start.branch [
-      | then-self-start w ↦ rw w.self-is (room-then _ w.put_byte.ensures (room_of (table-after c.args.set c.args.t c.args.start c.args.self.now.at (sym c.has_table.ensures ∙ c.if-not-has_table.false) w.if-self-start.true) c.requires.2)).left
-      | else-self-start w ↦ rw w.self-is (room_of {a = c.args.self.now} (table-first c.args.set c.args.t c.args.start c.args.self.now.at (sym c.has_table.ensures ∙ c.if-not-has_table.false) w.if-self-start.false) c.requires.2).left
+      | then-self-start w ↦ rw w.self-is (room-then _ w.put_byte.ensures (room_of _ (table-after c.args.set c.args.t c.args.start c.args.self.now.at (sym c.has_table.ensures ∙ c.if-not-has_table.false) w.if-self-start.true) c.requires.2)).left
+      | else-self-start w ↦ rw w.self-is (room_of c.args.self.now (table-first c.args.set c.args.t c.args.start c.args.self.now.at (sym c.has_table.ensures ∙ c.if-not-has_table.false) w.if-self-start.false) c.requires.2).left
     ]
 
 pub returns : goal.returns
