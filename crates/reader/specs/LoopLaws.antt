@@ -103,17 +103,13 @@ number-within LineOrder = (omega arith, omega arith)
 number-within TextEnd = (omega arith, omega arith)
 number-within LineExcess = (omega arith, omega arith)
 
--- a refusal is told by its reason and place
-told_as : (f : Refusal) (reason : Reason) (place : ℕ) → (f.reason ≡ reason) × (f.place ≡ place) → told f ≡ record { number = number_of reason; place = place }
-told_as f reason place e = rw (e.0, e.1) refl
-
 nothing-within : (p : Progress) → p ≡ no_line → Within p
 nothing-within p e = rw e (record { tables = omega arith; methods = omega arith; edges = omega arith })
 
 module _ (text : List ℕ) (p : Progress) (z : p ≡ no_line) (u : Bool) (e : u ≡ unfit text) (a : Columns) where
-  pub read-unfit : (f : Refusal) → u ≡ true → (f.reason ≡ TextEnd) × (f.place ≡ 0) → record { verdict = told f; read = read_of p a } ≡ reading text
+  pub read-unfit : (f : Refusal) → u ≡ true → f ≡ record { reason = TextEnd; place = 0 } → record { verdict = told f; read = read_of p a } ≡ reading text
   unfolding reading
-  read-unfit f t d = let y : unfit text ≡ true = sym e ∙ t in rw (told_as f TextEnd 0 d, z, y) refl
+  read-unfit f t d = let y : unfit text ≡ true = sym e ∙ t in rw (d, z, y) refl
 
   pub reads-start : u ≡ false → Reads text text 1 p a a
   unfolding reading
@@ -138,8 +134,8 @@ module _ {text rest : List ℕ} {place : ℕ} {p : Progress} {a b : Columns} (r 
   pub read-crew : length rest ≤ 0 → p.latest ≡ Some Crew → record { verdict = none; read = read_of p b } ≡ reading text
   read-crew l e = sym (rw e refl) ∙ at-end l
 
-  pub read-uncrewed : (f : Refusal) → length rest ≤ 0 → (p.latest ≡ Some Crew → ⊥) → (f.reason ≡ LineOrder) × (f.place ≡ place) → record { verdict = told f; read = read_of p b } ≡ reading text
-  read-uncrewed f l n d = rw (told_as f LineOrder place d) (go p.latest n (at-end l))
+  pub read-uncrewed : (f : Refusal) → length rest ≤ 0 → (p.latest ≡ Some Crew → ⊥) → f ≡ record { reason = LineOrder; place = place } → record { verdict = told f; read = read_of p b } ≡ reading text
+  read-uncrewed f l n d = rw d (go p.latest n (at-end l))
     where
       go : (k : Option Kind) → (k ≡ Some Crew → ⊥) → ended place (record { query = (read_of p b).query; workers = p.workers; scheme = p.scheme; latest = stage_at k }) ≡ reading text
           → record { verdict = record { number = 23; place = place }; read = record { query = (read_of p b).query; workers = p.workers; scheme = p.scheme; latest = stage_at k } } ≡ reading text
@@ -165,13 +161,13 @@ module _ {text rest : List ℕ} {place : ℕ} {p : Progress} {a b : Columns} (r 
 
     -- what a refused line is made into
     abbrev pub Refuses : Result Record Reason → Result Record Stopped → Type 0
-    Refuses judged out = MatchResult judged (λ k. out ≡ Ok k) (λ reason. IsErrAnd out (λ s. ((s.refusal.reason ≡ reason) × (s.refusal.place ≡ place)) × (s.progress ≡ p)))
+    Refuses judged out = MatchResult judged (λ k. out ≡ Ok k) (λ reason. IsErrAnd out (λ s. (s.refusal ≡ record { reason = reason; place = place }) × (s.progress ≡ p)))
 
     pub read-refused : (judged : Result Record Reason) (out : Result Record Stopped) (s : Stopped) → Judged p (take e rest) judged → Refuses judged out → out ≡ Err s → reading_of (Err s) b ≡ reading text
     read-refused (Ok k) out s j m z = let w : Ok k ≡ Err s = sym m ∙ z in let w' : ◌≡◌ {A = ℕ} 0 1 = cc in absurd (omega arith)
     read-refused (Err reason) out s j m z =
-        let d : ((s.refusal.reason ≡ reason) × (s.refusal.place ≡ place)) × (s.progress ≡ p) = rw z at m in
-        rw (told_as s.refusal reason place d.0, d.1) (sym (step-stop place (read_of p b) (take e rest) (lines after) (number_of reason) (is (number_of reason) j) (λ z. omega (arith, z, number-within reason))) ∙ split)
+        let d : (s.refusal ≡ record { reason = reason; place = place }) × (s.progress ≡ p) = rw z at m in
+        rw (d.0, d.1) (sym (step-stop place (read_of p b) (take e rest) (lines after) (number_of reason) (is (number_of reason) j) (λ z. omega (arith, z, number-within reason))) ∙ split)
 
     pub reads-next : {k : Record} {m : Progress} {c : Columns} → Judged p (take e rest) (Ok k) → Stored k.kind k.cells p m b c → Reads text after (place + 1) m a c
     reads-next {k} {m} {c} j s =

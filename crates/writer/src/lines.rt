@@ -1,10 +1,12 @@
 // The three kinds of line of an answer: "Answer lines part their fields by one blank, not a tab, and end in LF."
 ghost use Rattle.std.specs.Prelude.{◌∷◌, [], ◌≤◌, ◌+◌, length};
+ghost use Rattle.rules.specs.Verdict.{told};
 ghost use Rattle.rules.specs.Writing.{blank, digits_of, set_text, answer_line, plan_line, join_line, refusal_line};
 ghost use Rattle.digits.specs.Put.{Put};
 
 use digits::Line;
-use rules::{JoinStep, Verdict};
+use rules::JoinStep;
+use rules::refusal::Refusal;
 
 const BLANK: u8 = b' ';
 
@@ -38,6 +40,7 @@ fn put_two(line: &mut Line, letter: u8, a: u64, b: u64)
 }
 
 // "P: best cost, pairs."
+#[tactic(auto, unfolding(rules::specs::Writing::plan_line))]
 pub fn put_plan(line: &mut Line, best: u64, pairs: u64)
     requires { line.old.at + length (plan_line best pairs) ≤ length line.old.out.now }
     ensures { Put line.old line.new (plan_line best pairs) }
@@ -46,11 +49,12 @@ pub fn put_plan(line: &mut Line, best: u64, pairs: u64)
 }
 
 // "A refusal is one line: `X`, number, place, with single blanks."
-pub fn put_refusal(line: &mut Line, verdict: Verdict)
-    requires { line.old.at + length (refusal_line verdict) ≤ length line.old.out.now }
-    ensures { Put line.old line.new (refusal_line verdict) }
+#[tactic(auto, unfolding(rules::specs::Writing::refusal_line))]
+pub fn put_refusal(line: &mut Line, refusal: Refusal)
+    requires { line.old.at + length (refusal_line (told refusal)) ≤ length line.old.out.now }
+    ensures { Put line.old line.new (refusal_line (told refusal)) }
 {
-    put_two(line, b'X', verdict.number, verdict.place);
+    put_two(line, b'X', refusal.reason.number(), refusal.place);
 }
 
 // "J: outer tables, inner tables, method, estimate, cost"
