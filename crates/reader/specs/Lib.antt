@@ -1,5 +1,4 @@
 pub mod Records
-pub mod Columns
 pub mod StoreLaws
 pub mod ReadLaws
 pub mod LoopLaws
