@@ -9,6 +9,7 @@ ghost use Rattle.digits.specs.SetText.{table_text};
 use sets::has_table;
 
 // Lent bytes, and the place of the next one.
+#[derive(Drop)]
 pub struct Line<'a> {
     pub out: &'a mut [u8],
     pub at: usize,

@@ -12,6 +12,7 @@ use rules::{JoinStep, Step};
 use sets::lowest_table;
 
 // The memo of a plan of so many tables, as planning left it: a column for each field of a row.
+#[derive(Clone, Copy)]
 pub struct Memo<'a> {
     pub tables: u64,
     pub sets: &'a [u64],
