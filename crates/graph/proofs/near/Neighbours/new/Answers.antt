@@ -1,18 +1,1 @@
-use mathlib.Core.Path.{refl, ◌∙◌}
-use native.Mathlib.Omega.{arith}
-use lib.ListN.{length-set}
-use Rattle.graph.specs.NextLaws.{sets_more, near-all}
 use Rattle.graph.proofs.near.Neighbours.new.Goals as goal
-
-pub loop-k-init : goal.loop-k-init
-loop-k-init c = (refl, λ j h. absurd (omega arith))
-
-pub loop-k-preserved : goal.loop-k-preserved
-loop-k-preserved c =
-    let l = c.loop-k in
-    (length-set l.of l.k c.next_to.result ∙ l.invariant.0, sets_more c.args.graph.now l.of l.k (omega arith) l.invariant.1 c.next_to.ensures)
-
-pub returns-clause-near : goal.returns-clause-near
-returns-clause-near c =
-    let l = c.loop-k in
-    near-all c.args.graph.now l.of (rw (← c.graph.view_is) c.graph.invariant) (λ j h. l.invariant.1 j (omega (arith, rw (← c.graph.view_is) at h)))
