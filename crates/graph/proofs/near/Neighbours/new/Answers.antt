@@ -1,0 +1,1 @@
+use Rattle.graph.proofs.near.Neighbours.new.Goals as goal
