@@ -34,11 +34,11 @@ pub known-few : (s : List ℕ) (l : Option Form) (f : Form) → l ≡ form_of s 
 known-few s l f p q = let e : numbers_of (form_of s) ≡ f.numbers = ap numbers_of (sym p ∙ q) in omega (arith, form-few s)
 
 -- a good line is none too many
-pub good-fits : {line : List ℕ} {r : Record} (p : Progress) → number_as (line_form line) p line ≡ 0 → Recorded (line_form line) line r → excess r.kind p.tables p.methods p.edges ≡ false
+pub good-fits : {line : List ℕ} {r : Record} (p : Progress) → 0 ≡ number_as (line_form line) p line → Recorded (line_form line) line r → excess r.kind p.tables p.methods p.edges ≡ false
 unfolding line_number_as
 good-fits {line} {r} p e d =
     go (not (eqb (length (fields line)) (suc d.numbers))) (not (all_numbers (number_fields line))) (misplaced r.kind (stage_at p.latest) p.tables (get_or (values line) 0 0)) (excess r.kind p.tables p.methods p.edges)
-    (sym (ap (λ (l : Option Form). number_as l p line) d.form) ∙ e)
+    (sym (ap (λ (l : Option Form). number_as l p line) d.form) ∙ sym e)
   where
     go : (a b c x : Bool) → ◌≡◌ {A = ℕ} (cond a 21 (cond b 22 (cond c 23 (cond x 25 0)))) 0 → x ≡ false
     go true b c x e = absurd (omega arith)

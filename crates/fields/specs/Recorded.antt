@@ -1,9 +1,9 @@
 -- What a judged line means.
-use Rattle.std.specs.Prelude.{◌≡◌, true, false, List, ℕ, get_or, Option, Some, None, Result, Ok, Err}
+use Rattle.std.specs.Prelude.{◌≡◌, true, false, List, ℕ, get_or, Option, Some, None, Result, IfOk}
 use Rattle.rules.specs.declared.forms.Kind.{Kind}
 use Rattle.rules.specs.declared.forms.Form.{Form}
 use Rattle.rules.specs.declared.refusal.Reason.{Reason}
-use Rattle.rules.specs.Verdict.{number_of}
+use Rattle.rules.specs.Verdict.{number_in}
 use Rattle.rules.specs.Reading.{known, stage, all_numbers, number_fields, values, line_form, line_number_as}
 use Rattle.fields.specs.declared.kinds.Progress.{Progress}
 use Rattle.fields.specs.declared.kinds.Record.{Record}
@@ -28,10 +28,9 @@ pub record Recorded (l : Option Form) (line : List ℕ) (r : Record) : Type 0 wh
   pub form : l ≡ known r.kind numbers
   pub cells_are : (k : ℕ) → get_or r.cells k 0 ≡ get_or (values line) k 0
 
--- a line whose letter says l is refused for its reason, or good and its record given
+-- what is told of a line whose letter says l: the reason of its refusal, or its record
 abbrev pub JudgedAs : Option Form → Progress → List ℕ → Result Record Reason → Type 0
-JudgedAs l p line (Err reason) = number_of reason ≡ number_as l p line
-JudgedAs l p line (Ok r) = (number_as l p line ≡ 0) × Recorded l line r
+JudgedAs l p line r = (number_in r ≡ number_as l p line) × IfOk r (Recorded l line)
 
 -- the same of any line
 abbrev pub Judged : Progress → List ℕ → Result Record Reason → Type 0

@@ -167,7 +167,7 @@ module _ {text rest : List ℕ} {place : ℕ} {p : Progress} {a b : Columns} (r 
     read-refused (Ok k) out s j m z = let w : Ok k ≡ Err s = sym m ∙ z in let w' : ◌≡◌ {A = ℕ} 0 1 = cc in absurd (omega arith)
     read-refused (Err reason) out s j m z =
         let d : (s.refusal ≡ record { reason = reason; place = place }) × (s.progress ≡ p) = rw z at m in
-        rw (d.0, d.1) (sym (step-stop place (read_of p b) (take e rest) (lines after) (number_of reason) (is (number_of reason) j) (λ z. omega (arith, z, number-within reason))) ∙ split)
+        rw (d.0, d.1) (sym (step-stop place (read_of p b) (take e rest) (lines after) (number_of reason) (is (number_of reason) j.0) (λ z. omega (arith, z, number-within reason))) ∙ split)
 
     pub reads-next : {k : Record} {m : Progress} {c : Columns} → Judged p (take e rest) (Ok k) → Stored k.kind k.cells p m b c → Reads text after (place + 1) m a c
     reads-next {k} {m} {c} j s =
@@ -176,7 +176,7 @@ module _ {text rest : List ℕ} {place : ℕ} {p : Progress} {a b : Columns} (r 
           spare = spare-on p m a b c s.tables-grow s.methods-grow s.edges-grow r.spare s.spare;
           within = s.within;
           held = s.held;
-          goes = ap (λ (x : Read). read_from (place + 1) x (lines after)) w ∙ sym (step-next place (read_of p b) (take e rest) (lines after) (is 0 (sym j.0))) ∙ split;
+          goes = ap (λ (x : Read). read_from (place + 1) x (lines after)) w ∙ sym (step-next place (read_of p b) (take e rest) (lines after) (is 0 j.0)) ∙ split;
           last = after-ended rest e q line-in r.last;
           count = omega (arith, r.count, line-in, after-length rest e q line-in);
           short = r.short;

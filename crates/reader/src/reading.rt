@@ -97,6 +97,7 @@ pub fn read(text: &[u8], columns: &mut Columns) -> Result<Progress, Stopped>
     }
     let mut rest = text;
     let mut place = 1;
+    // `split` would be no plainer: it gives a part more after the last line's end, and one of an empty text.
     while !rest.is_empty() {
         let end = span_to(rest, b'\n');
         let entry = judge(&rest[..end], progress).map_err(|reason| Stopped {
