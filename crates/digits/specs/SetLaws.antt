@@ -1,6 +1,7 @@
 -- The text of a set grows by its tables, from table 1 on.
 use Rattle.std.specs.Prelude.{◌≡◌, refl, Bool, true, false, cond, List, [], ◌∷◌, ◌++◌, map, ℕ, zero, suc, ◌+◌, ◌-◌, ◌/◌, ◌%◌, ◌≤◌, ◌<◌, eqb, ltb, length}
 use Rattle.std.proofs.Common.{sym, ap, ◌∙◌, append-nil, append_assoc, not-suc-le-zero, add-zero, add-suc, one-add, arith, length-append, lt-ltb, le-ltb}
+use Rattle.std.proofs.lemmas.List.{map-append}
 use Rattle.rules.specs.Sets.{has, tables_from, tables}
 use Rattle.rules.specs.Writing.{comma, digits_of, follow, joined, set_text}
 use Rattle.rules.specs.laws.Sets.{bit, holds-bit}
@@ -45,10 +46,6 @@ joined-one : (by : ℕ) (r : List ℕ) → joined by (r ∷ []) ≡ r
 unfolding joined follow
 joined-one by r = append-nil r
 
-map-append : (xs ys : List ℕ) → map digits_of (xs ++ ys) ≡ map digits_of xs ++ map digits_of ys
-map-append [] ys = refl
-map-append (x ∷ xs) ys = ap (λ (l : List (List ℕ)). digits_of x ∷ l) (map-append xs ys)
-
 abbrev text_of : List ℕ → List ℕ
 text_of ts = joined comma (map digits_of ts)
 
@@ -62,7 +59,7 @@ text-more : (ts : List ℕ) (t : ℕ) → text_of (ts ++ (t ∷ [])) ≡ text_of
 unfolding joined
 text-more [] t = joined-one comma (digits_of t)
 text-more (x ∷ ts) t =
-    ap (joined comma) (map-append (x ∷ ts) (t ∷ [])) ∙ joined-last comma (digits_of x) (digits_of t) (map digits_of ts) ∙ rw (lt-ltb 0 (length (text_of (x ∷ ts))) (text-some x ts)) refl
+    ap (joined comma) (map-append digits_of (x ∷ ts) (t ∷ [])) ∙ joined-last comma (digits_of x) (digits_of t) (map digits_of ts) ∙ rw (lt-ltb 0 (length (text_of (x ∷ ts))) (text-some x ts)) refl
 
 text-step : (b : Bool) (ts : List ℕ) (t : ℕ) → text_of (ts ++ only b t) ≡ text_of ts ++ cond b (cond (ltb 0 (length (text_of ts))) (comma ∷ digits_of t) (digits_of t)) []
 text-step true ts t = text-more ts t

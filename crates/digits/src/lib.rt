@@ -9,6 +9,7 @@ ghost use Rattle.digits.specs.SetText.{table_text};
 use sets::has_table;
 
 // Lent bytes, and the place of the next one.
+// Its numbers and sets are put by hand and not by `write!`, which may fail: no clause of std says that it does not where there is room.
 #[derive(Drop)]
 pub struct Line<'a> {
     pub out: &'a mut [u8],

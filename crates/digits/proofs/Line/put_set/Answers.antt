@@ -12,8 +12,5 @@ put_table-requires c = (omega arith, omega arith, table-room _ _ _ (omega arith)
 pub loop-t-preserved : goal.loop-t-preserved
 loop-t-preserved c = (omega arith, set-step _ _ (omega arith) c.loop-t.invariant.1 c.put_table.ensures)
 
-pub returns : goal.returns
-returns c = set-done _ _ _ (omega arith) c.loop-t-test.false c.loop-t.invariant.1
-
 pub returns-2 : goal.returns-2
 returns-2 c = set-done _ _ (c.loop-t.t + 1) (omega arith) (omega arith) (set-step _ _ (omega arith) c.loop-t.invariant.1 c.put_table.ensures)
