@@ -6,5 +6,4 @@ pub mod SpanLaws
 pub mod LeafLaws
 pub mod GroundLaws
 pub mod FindLaws
-pub mod FitLaws
 pub mod UniqueLaws
