@@ -3,16 +3,15 @@
 
 ghost use Rattle.std.specs.Prelude.{◌≡◌, true, cond, map, ◌+◌, ◌≤◌, ◌<◌, length, set};
 ghost use Rattle.std.proofs.lemmas.List.Edits.{sets};
-ghost use Rattle.rules.specs.Query.{Graph, graph_of};
-ghost use Rattle.rules.specs.Checked.{GoodGraph};
+ghost use Rattle.rules.specs.Query.{Graph};
 ghost use Rattle.rules.specs.Estimate.{estimate};
 ghost use Rattle.rules.specs.Rows.{memo};
-ghost use Rattle.rows.specs.Tally.{Tally};
 ghost use Rattle.fill.specs.Fill.{Filling, Filled};
 
+use graph::chosen::Chosen;
 use graph::near::{grows, neighbours, stuck};
 use parts::{table_parts, with_part};
-use rows::tally::SIZES;
+use rows::tally::{SIZES, Tally};
 use sets::single;
 
 // Writes a set and its estimate where it is a row; the place after it.
@@ -36,75 +35,70 @@ fn fill_from(
     parts: &[u64; 256],
     tables: u64,
     t: u64,
-    chosen: u64,
-    around: u64,
-    joined: bool,
+    chosen: Chosen,
     size: usize,
     e: u64,
     starts: &mut [usize],
     out: &mut [u64],
     estimates: &mut [u64],
 )
-    requires { (g : Graph) × Filling g near.now parts.now tables t chosen around joined size e starts.old out.old estimates.old }
-    ensures { (g : Graph) → Filling g near.now parts.now tables t chosen around joined size e starts.old out.old estimates.old → Filled g tables t chosen size starts.old starts.new out.old out.new estimates.old estimates.new }
+    requires { (g : Graph) × Filling g near.now parts.now tables t chosen size e starts.old out.old estimates.old }
+    ensures { (g : Graph) → Filling g near.now parts.now tables t chosen size e starts.old out.old estimates.old → Filled g tables t chosen.set size starts.old starts.new out.old out.new estimates.old estimates.new }
 {
     if t > tables {
         return;
     }
     let bit = single(t);
     let rest = single(tables + 1) - bit;
-    if stuck(near, chosen, around, joined, rest) {
+    if stuck(near, chosen, rest) {
         return;
     }
-    let row = grows(near, chosen, around, joined, bit);
-    let with = chosen + bit;
+    let row = grows(near, chosen, bit);
     let beside = near[(t - 1) as usize];
-    let wider = around | beside;
-    let more = with_part(parts, t, chosen & beside, e);
+    let with = Chosen {
+        set: chosen.set + bit,
+        around: chosen.around | beside,
+        joined: row,
+    };
+    let more = with_part(parts, t, chosen.set & beside, e);
     let after = t + 1;
     let larger = size + 1;
-    starts[larger] = put(row, with, more, out, estimates, starts[larger]);
+    starts[larger] = put(row, with.set, more, out, estimates, starts[larger]);
     fill_from(
-        near, parts, tables, after, with, wider, row, larger, more, starts, out, estimates,
+        near, parts, tables, after, with, larger, more, starts, out, estimates,
     );
     fill_from(
-        near, parts, tables, after, chosen, around, joined, size, e, starts, out, estimates,
+        near, parts, tables, after, chosen, size, e, starts, out, estimates,
     );
 }
 
-// Writes the sets and the estimates of all rows, in memo order; `counts` is their tally.
-pub fn lay_rows(
-    rows: &[u64],
-    left: &[u64],
-    right: &[u64],
-    divisors: &[u64],
-    counts: &[usize],
-    out: &mut [u64],
-    estimates: &mut [u64],
-)
-    requires good_graph { GoodGraph (graph_of rows.now left.now right.now divisors.now) }
-    requires tally { Tally (graph_of rows.now left.now right.now divisors.now) counts.now }
-    requires room { (length (memo (graph_of rows.now left.now right.now divisors.now)) ≤ length out.old) × (length (memo (graph_of rows.now left.now right.now divisors.now)) ≤ length estimates.old) }
-    ensures out { out.new ≡ sets out.old 0 (memo (graph_of rows.now left.now right.now divisors.now)) }
-    ensures estimates { estimates.new ≡ sets estimates.old 0 (map (estimate (graph_of rows.now left.now right.now divisors.now)) (memo (graph_of rows.now left.now right.now divisors.now))) }
+// Writes the sets and the estimates of all rows, in memo order.
+pub fn lay_rows(tally: &Tally, out: &mut [u64], estimates: &mut [u64])
+    requires room { (length (memo tally.now.graph.now) ≤ length out.old) × (length (memo tally.now.graph.now) ≤ length estimates.old) }
+    ensures out { out.new ≡ sets out.old 0 (memo tally.now.graph.now) }
+    ensures estimates { estimates.new ≡ sets estimates.old 0 (map (estimate tally.now.graph.now) (memo tally.now.graph.now)) }
 {
-    let near = neighbours(rows, left, right, divisors);
-    let parts = table_parts(rows, left, right, divisors);
+    let graph = tally.graph;
+    let near = neighbours(graph);
+    let parts = table_parts(graph);
     let mut starts = [0usize; SIZES];
     let mut at = 0usize;
-    for k in 0..rows.len() {
+    for k in 0..graph.rows.len() {
         starts[k + 1] = at;
-        at += counts[k + 1];
+        at += tally.counts[k + 1];
     }
-    let tables = rows.len() as u64;
+    let tables = graph.rows.len() as u64;
+    let none = Chosen {
+        set: 0,
+        around: 0,
+        joined: false,
+    };
     fill_from(
         &near,
         &parts,
         tables,
         1,
-        0,
-        0,
-        false,
+        none,
         0,
         1,
         &mut starts,

@@ -10,7 +10,7 @@ use Rattle.fill.proofs.+fill_from.Goals as goal
 
 pub returns-then-t-tables : goal.returns-then-t-tables
 returns-then-t-tables t c =
-    λ g d. filled_none _ _ _ (found-last g c.args.tables c.args.size c.args.t c.args.chosen c.if-t-tables.true)
+    λ g d. filled_none _ _ _ (found-last g c.args.tables c.args.size c.args.t c.args.chosen.set c.if-t-tables.true)
 
 pub single-bit-requires : goal.single-bit-requires
 single-bit-requires t c =
@@ -26,24 +26,24 @@ single-requires t c =
 
 pub overflow_sub-rest : goal.overflow_sub-rest
 overflow_sub-rest t c =
-    rest_some c.requires.0 c.args.tables c.args.t c.args.chosen c.requires.1.node.some c.requires.1.node.last c.requires.1.node.below c.single.result c.single-bit.result c.single.ensures c.single-bit.ensures
+    rest_some c.requires.0 c.args.tables c.args.t c.args.chosen.set c.requires.1.node.some c.requires.1.node.last c.requires.1.node.below c.single.result c.single-bit.result c.single.ensures c.single-bit.ensures
 
 pub stuck-requires : goal.stuck-requires
 stuck-requires t c =
     let single' = c.single-bit in
-    (rest-apart c.requires.0 c.args.tables c.args.t c.args.chosen c.requires.1.node.some c.requires.1.node.last c.requires.1.node.below c.single.result single'.result c.single.ensures single'.ensures, all-fits c.args.tables (c.args.chosen + (c.single.result - single'.result)) c.requires.1.node.few (rest-fits c.requires.0 c.args.tables c.args.t c.args.chosen c.requires.1.node.some c.requires.1.node.last c.requires.1.node.below c.single.result single'.result c.single.ensures single'.ensures))
+    (rest-apart c.requires.0 c.args.tables c.args.t c.args.chosen.set c.requires.1.node.some c.requires.1.node.last c.requires.1.node.below c.single.result single'.result c.single.ensures single'.ensures, all-fits c.args.tables (c.args.chosen.set + (c.single.result - single'.result)) c.requires.1.node.few (rest-fits c.requires.0 c.args.tables c.args.t c.args.chosen.set c.requires.1.node.some c.requires.1.node.last c.requires.1.node.below c.single.result single'.result c.single.ensures single'.ensures))
 
 pub returns-then-stuck : goal.returns-then-stuck
 returns-then-stuck t c =
-    λ g d. filled_none _ _ _ (found_none g c.args.size c.args.t (c.args.tables + 1 - c.args.t) c.args.chosen (c.stuck.ensures.none c.if-stuck.true g c.args.tables c.args.t d.node (rest-is c.requires.0 c.args.tables c.args.t c.args.chosen c.requires.1.node.some c.requires.1.node.last c.requires.1.node.below c.single.result c.single-bit.result c.single.ensures c.single-bit.ensures)))
+    λ g d. filled_none _ _ _ (found_none g c.args.size c.args.t (c.args.tables + 1 - c.args.t) c.args.chosen.set (c.stuck.ensures.none c.if-stuck.true g c.args.tables c.args.t d.node (rest-is c.requires.0 c.args.tables c.args.t c.args.chosen.set c.requires.1.node.some c.requires.1.node.last c.requires.1.node.below c.single.result c.single-bit.result c.single.ensures c.single-bit.ensures)))
 
 pub grows-row-requires : goal.grows-row-requires
 grows-row-requires t c =
-    omega (arith, c.single-bit.ensures, with-fits c.args.t c.args.chosen c.requires.1.node.some c.requires.1.node.below (omega (arith, c.requires.1.node.few, c.if-t-tables.false)))
+    omega (arith, c.single-bit.ensures, with-fits c.args.t c.args.chosen.set c.requires.1.node.some c.requires.1.node.below (omega (arith, c.requires.1.node.few, c.if-t-tables.false)))
 
 pub overflow_add-with : goal.overflow_add-with
 overflow_add-with t c =
-    omega (arith, c.single-bit.ensures, with-fits c.args.t c.args.chosen c.requires.1.node.some c.requires.1.node.below (omega (arith, c.requires.1.node.few, c.if-t-tables.false)))
+    omega (arith, c.single-bit.ensures, with-fits c.args.t c.args.chosen.set c.requires.1.node.some c.requires.1.node.below (omega (arith, c.requires.1.node.few, c.if-t-tables.false)))
 
 pub overflow_sub-beside : goal.overflow_sub-beside
 overflow_sub-beside t c =

@@ -52,7 +52,7 @@ pub loop-left-preserved : goal.loop-left-preserved
 loop-left-preserved c =
     let l = c.loop-left in
     let lowest-table' = c.lowest_table-u in
-    (divides-rest c.args.parts.now c.args.t l.left lowest-table'.result l.r lowest-table'.ensures c.single-left.result c.single-left.ensures l.invariant.0, linked-step c.args.parts.now c.args.t l.left lowest-table'.result l.r lowest-table'.ensures c.single-left.result c.single-left.ensures l.invariant.0 c.args.linked c.args.e c.cell.result c.raised-r.result c.cell.ensures c.raised-r.ensures l.invariant.1)
+    (divides-rest c.args.parts.now c.args.t l.left lowest-table'.result l.r lowest-table'.ensures c.single-left.result c.single-left.ensures l.invariant.0, linked-step c.args.parts.now c.args.t l.left lowest-table'.result l.r lowest-table'.ensures c.single-left.result c.single-left.ensures l.invariant.0 c.args.linked c.args.e c.cell.result c.max-r.result c.cell.ensures c.max-r.ensures l.invariant.1)
 
 pub returns : goal.returns
 returns c =

@@ -1,5 +1,5 @@
 use native.Mathlib.Omega.{arith}
-use Rattle.parts.specs.PartLaws.{cell-fits, product-fits, cut-is, uncut-is}
+use Rattle.parts.specs.PartLaws.{cell-fits, product-fits, cut-is}
 use Rattle.parts.proofs.with_part.Goals as goal
 
 pub cell-requires : goal.cell-requires
@@ -20,10 +20,6 @@ overflow_mul-product c =
 pub by_linked-r-requires : goal.by_linked-r-requires
 by_linked-r-requires c = c.requires.divides
 
-pub returns-then-r-gt-MAX_ESTIMATE : goal.returns-then-r-gt-MAX_ESTIMATE
-returns-then-r-gt-MAX_ESTIMATE c =
-    cut-is c.args.parts.now c.args.t c.args.linked c.args.e c.cell.result c.cell.ensures c.by_linked-r.ensures c.if-r-gt-MAX_ESTIMATE.true
-
 pub returns : goal.returns
 returns c =
-    uncut-is c.args.parts.now c.args.t c.args.linked c.args.e c.cell.result c.cell.ensures c.by_linked-r.ensures c.if-r-gt-MAX_ESTIMATE.false
+    cut-is c.args.parts.now c.args.t c.args.linked c.args.e c.cell.result c.cell.ensures c.by_linked-r.ensures c.min.ensures

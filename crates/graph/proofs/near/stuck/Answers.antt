@@ -9,20 +9,20 @@ use Rattle.graph.proofs.near.stuck.Goals as goal
 
 pub returns-then-chosen-eq0 : goal.returns-then-chosen-eq0
 returns-then-chosen-eq0 c =
-    stuck-not c.args.near.now c.args.chosen c.args.around c.args.joined c.args.rest
+    stuck-not c.args.near.now c.args.chosen c.args.rest
 
 pub returns-then-not-overlap : goal.returns-then-not-overlap
 returns-then-not-overlap c =
     let overlap' = c.overlap in
-    stuck-closed c.args.near.now c.args.chosen c.args.around c.args.joined c.args.rest c.if-chosen-eq0.false (overlap-none c.args.around c.args.rest overlap'.result overlap'.ensures (not-true overlap'.result (ap not c.if-not-overlap.true)))
+    stuck-closed c.args.near.now c.args.chosen c.args.rest c.if-chosen-eq0.false (overlap-none c.args.chosen.around c.args.rest overlap'.result overlap'.ensures (not-true overlap'.result (ap not c.if-not-overlap.true)))
 
-pub returns-then-joined : goal.returns-then-joined
-returns-then-joined c =
-    stuck-not c.args.near.now c.args.chosen c.args.around c.args.joined c.args.rest
+pub returns-then-chosen : goal.returns-then-chosen
+returns-then-chosen c =
+    stuck-not c.args.near.now c.args.chosen c.args.rest
 
 pub joins-requires : goal.joins-requires
 joins-requires c = (omega arith, omega arith, within-left (record { apart = c.requires.0; whole = refl }))
 
 pub returns : goal.returns
 returns c =
-    stuck-asked c.args.near.now c.args.chosen c.args.around c.args.joined c.args.rest c.joins.result c.joins.ensures
+    stuck-asked c.args.near.now c.args.chosen c.args.rest c.joins.result c.joins.ensures
