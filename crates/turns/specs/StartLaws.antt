@@ -1,5 +1,5 @@
 -- Before the first turn: the rows of one table, the memo as laying out leaves it, and what a turn works on.
-use Rattle.std.specs.Prelude.{◌≡◌, refl, List, [], ◌∷◌, ◌++◌, map, ℕ, zero, suc, ◌+◌, ◌-◌, ◌≤◌, ◌<◌, length, get_or, set, take, replicate}
+use Rattle.std.specs.Prelude.{◌≡◌, refl, Option, List, [], ◌∷◌, ◌++◌, map, ℕ, zero, suc, ◌+◌, ◌-◌, ◌≤◌, ◌<◌, length, get_or, set, take, replicate}
 use Rattle.std.proofs.Common.{sym, ap, ◌∙◌, zero-add, add-one, arith, length-take, take-suc, get_or-set_other}
 use Rattle.std.proofs.Math.Decide.{dec_lt}
 use Rattle.std.proofs.lemmas.List.{length-replicate, get_or-replicate}
@@ -119,8 +119,8 @@ module _ (g : Graph) where
   tables-fit good = omega (arith, start-two, start-memo g 2 (omega (arith, good.some-table)))
 
 -- the row of a pair's result is one of the memo
-pub handing-inside : {g : Graph} {fixed outer inner result : List ℕ} {group : Group} {v v' : Worker} {old new : Columns} {pair : code.Handed} (h : Handing g fixed outer inner result group v v' old new pair) → h.row < length (memo g)
-handing-inside {g} {group = group} {v = v} h = go (result_at group v.place.size) h.row_from h.row-to
+pub handing-inside : {g : Graph} {fixed outer inner result : List ℕ} {group : Group} {v v' : Worker} {old new : Columns} {pair : Option code.Handed} (h : Handing g fixed outer inner result group v v' old new pair) → h.row < length (memo g)
+handing-inside {g} {group = group} h = go (result_at group h.spot.size) h.row_from h.row-to
   where
     go : (z : ℕ) → start_of g z ≤ h.row → h.row < start_of g (z + 1) → h.row < length (memo g)
     go zero a b = let e : 0 + 1 ≡ 1 = omega arith in absurd (omega (arith, start-one g, ap (start_of g) e))
