@@ -1,19 +1,19 @@
 -- What the methods of a query cost, by the struct that holds them.
-use Rattle.std.specs.Prelude.{ℕ}
+use Rattle.std.specs.Prelude.{ℕ, Bool, length}
 use Rattle.rules.specs.Offers as rules
 use Rattle.rules.specs.Offers.{Pair, Offered, sides}
+use Rattle.results.specs.declared.price.Join.{Join}
 use Rattle.results.specs.declared.price.Part.{Part}
 use Rattle.results.specs.declared.price.Rates.{Rates}
 use Rattle.results.specs.Prices.{Cheapest, packed_at, join_by}
-use Rattle.std.specs.Prelude.{Bool, length}
 
 -- the packed price of the method at place k
-abbrev pub packed_of : Rates → ℕ → ℕ → ℕ → ℕ → ℕ
-packed_of r ex ey er k = packed_at r.fixed.now r.outer.now r.inner.now r.res.now ex ey er k
+abbrev pub packed_of : Rates → Join → ℕ → ℕ
+packed_of r j k = packed_at r.fixed.now r.outer.now r.inner.now r.res.now j.outer j.inner j.res k
 
 -- v is the least of the packed prices
-abbrev pub CheapestBy : Rates → ℕ → ℕ → ℕ → ℕ → Type 0
-CheapestBy r ex ey er v = Cheapest r.fixed.now r.outer.now r.inner.now r.res.now ex ey er v
+abbrev pub CheapestBy : Rates → Join → ℕ → Type 0
+CheapestBy r j v = Cheapest r.fixed.now r.outer.now r.inner.now r.res.now j.outer j.inner j.res v
 
 -- the pair of two parts
 abbrev pub pair_of : Part → Part → Pair

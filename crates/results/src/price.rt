@@ -19,6 +19,15 @@ pub struct Part {
     pub estimate: u64,
 }
 
+// The estimates of a join's outer part, of its inner part and of its result.
+#[derive(Clone, Copy)]
+struct Join {
+    outer: u64,
+    inner: u64,
+    res: u64,
+    ghost fits: { Estimates outer inner res },
+}
+
 // What the methods of a query cost, each at its place: a fixed part, and a part for each unit of the outer, the inner and the result's
 // estimate.
 #[derive(Clone, Copy)]
@@ -37,34 +46,35 @@ const SHIFT: u64 = 8;
 impl<'a> Rates<'a> {
     ghost use Rattle.results.specs.Rates.{packed_of, CheapestBy, Joins};
 
-    // The price and the number, in one number, of the method at place `k` of a join whose outer part, inner part and result have these
-    // estimates.
-    fn pack(&self, k: usize, ex: u64, ey: u64, er: u64) -> u64
-        requires { (k < length self.now.fixed.now) × Estimates ex ey er }
-        ensures { result ≡ packed_of self.now ex ey er k }
+    // The price and the number, in one number, of the method at place `k`.
+    fn pack(&self, k: usize, join: Join) -> u64
+        requires { k < length self.now.fixed.now }
+        ensures { result ≡ packed_of self.now join k }
     {
-        (self.fixed[k] + self.outer[k] * ex + self.inner[k] * ey + self.res[k] * er) * SHIFT
-            + (k as u64 + 1)
+        let price = self.fixed[k]
+            + self.outer[k] * join.outer
+            + self.inner[k] * join.inner
+            + self.res[k] * join.res;
+        price * SHIFT + (k as u64 + 1)
     }
 
     // The least of them. There are at most four, written out: of a loop over them LLVM makes vector code, which is slower.
-    fn cheapest(&self, ex: u64, ey: u64, er: u64) -> u64
-        requires { Estimates ex ey er }
-        ensures { CheapestBy self.now ex ey er result }
+    fn cheapest(&self, join: Join) -> u64
+        ensures { CheapestBy self.now join result }
     {
-        let best = self.pack(0, ex, ey, er);
+        let best = self.pack(0, join);
         if self.fixed.len() == 1 {
             return best;
         }
-        let second = best.min(self.pack(1, ex, ey, er));
+        let second = best.min(self.pack(1, join));
         if self.fixed.len() == 2 {
             return second;
         }
-        let third = second.min(self.pack(2, ex, ey, er));
+        let third = second.min(self.pack(2, join));
         if self.fixed.len() == 3 {
             return third;
         }
-        third.min(self.pack(3, ex, ey, er))
+        third.min(self.pack(3, join))
     }
 
     // The best way to join two sets, either as the outer one, or only `y` if not `both`; `er` is their result's estimate, `base` what the
@@ -75,7 +85,11 @@ impl<'a> Rates<'a> {
         requires different { x.set ≡ y.set → ⊥ }
         ensures { Best (Joins self.now both x y er base) (choice_of result) }
     {
-        let turned = self.cheapest(y.estimate, x.estimate, er);
+        let turned = self.cheapest(Join {
+            outer: y.estimate,
+            inner: x.estimate,
+            res: er,
+        });
         let second = Choice {
             cost: base + turned / SHIFT,
             outer: y.set,
@@ -84,7 +98,11 @@ impl<'a> Rates<'a> {
         if !both {
             return second;
         }
-        let driving = self.cheapest(x.estimate, y.estimate, er);
+        let driving = self.cheapest(Join {
+            outer: x.estimate,
+            inner: y.estimate,
+            res: er,
+        });
         let first = Choice {
             cost: base + driving / SHIFT,
             outer: x.set,
