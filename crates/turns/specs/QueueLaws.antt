@@ -157,8 +157,8 @@ module _ {g : Graph} {crew : Crew} {group : Group} {fixed outer inner result : L
 
   -- the queues after a turn are those of the workers' new places
   pub turn-pop : pop w (queues_at g crew group workers) ≡ queues_at g crew group workers'
-  turn-pop = ⊎_elim pop-some pop-none (true-or-false left (worker_at workers w).place)
+  turn-pop = ⊎_elim pop-some pop-none (true-or-false (left (worker_at workers w).place))
 
   -- it answers a pair exactly where its worker had one left
   pub turn-found : is_some pair ≡ left (worker_at workers w).place
-  turn-found = ⊎_elim (λ e. found_some e ∙ sym e) (λ e. found_none e ∙ sym e) (true-or-false left (worker_at workers w).place)
+  turn-found = ⊎_elim (λ e. found_some e ∙ sym e) (λ e. found_none e ∙ sym e) (true-or-false (left (worker_at workers w).place))

@@ -299,4 +299,4 @@ module _ {q : Query} {crew : Crew} {groups : Schedule} {turns : List ℕ} (work 
           rw (row_at q.graph new h.row (union (sets_of x)) row_inside set_is) at (turn-some.rows.rows (union (sets_of x)) c (results-large q crew work.some-worker (table_count q.graph - 1) groups work.serves k one known (sets_of x) j (met-sized q.graph (groups k) x stands)))
 
     pub standing-turn : Standing q crew groups k workers' new
-    standing-turn = ⊎_elim turn-some turn-none (true-or-false left (worker_at workers w).place)
+    standing-turn = ⊎_elim turn-some turn-none (true-or-false (left (worker_at workers w).place))

@@ -1,10 +1,9 @@
 -- What a turn may rely on at its worker's place, and what makes it a turn.
-use Rattle.std.specs.Prelude.{◌≡◌, refl, ◌⊎◌, List, Option, Some, map, ℕ, ◌+◌, ◌-◌, ◌*◌, ◌^◌, ◌≤◌, ◌<◌, length, get_or, set}
-use Rattle.std.proofs.Common.{sym, ap, ◌∙◌, inl, inr, ⊎_elim, add_comm, arith, eq-eqb, ne_eqb, length-take, length-set, pow_mono, get_or-take, get_or-set_same, Fits}
+use Rattle.std.specs.Prelude.{◌≡◌, refl, ◌⊎◌, List, Option, Some, map, ℕ, ◌+◌, ◌-◌, ◌^◌, ◌≤◌, ◌<◌, length, get_or, set}
+use Rattle.std.proofs.Common.{sym, ap, ◌∙◌, inl, inr, ⊎_elim, add_comm, arith, eq-eqb, ne_eqb, length-take, length-set, pow_mono, get_or-take, get_or-set_same}
 use Rattle.std.proofs.Math.Bool.{true}
 use Rattle.std.proofs.Math.Seq.{slice}
-use Rattle.std.specs.Int.{w64}
-use Rattle.rules.specs.Limits.{max_tables, cost_bound}
+use Rattle.rules.specs.Limits.{cost_bound}
 use Rattle.rules.specs.Sets.{size, Splits}
 use Rattle.rules.specs.declared.Group.{Group}
 use Rattle.rules.specs.Offers.{union}
@@ -37,7 +36,6 @@ use Rattle.crew.specs.declared.Handed as code
 use Rattle.shares.specs.declared.places.Place.{Place}
 use Rattle.shares.specs.declared.places.Spot.{Spot}
 use Rattle.shares.specs.Nowhere.{left}
-use Rattle.shares.specs.Shares.{few}
 use Rattle.pairs.specs.Places.{start_of, met_numbered, no_candidate, At, NextFrom}
 use Rattle.pairs.specs.PlaceLaws.{start-mono, start-memo, first-from, memo-inside, memo-row, in_size}
 use Rattle.pairs.specs.GroundLaws.{ground-set, at-number}
@@ -256,46 +254,9 @@ turn-of workers w v v' workers' l i f t =
     let e : worker_at (set workers w v') w ≡ v' = get_or-set_same workers w v' nobody l in
     rw f (record { step = rw (e, ← i) t; others = ap (set workers w) (sym e) })
 
--- ---- the arithmetic of a turn, over plain numbers: omega at a place deep in the code reads every record on the way to it
-pub row-in : {i n m : ℕ} → i < n → n ≤ m → i < m
-row-in h l = omega arith
-
-pub set-fits : {n : ℕ} → n < 2 ^ 32 → Fits w64 n
-set-fits h = omega arith
-
-pub costs-fit : {n : ℕ} → n < cost_bound + cost_bound → Fits w64 n
-costs-fit h = omega arith
-
--- result size z of n tables, in the table of starts
-module _ {z n : ℕ} (known : z ≤ n) (few-tables : n ≤ max_tables) where
-  pub size-cell : Fits w64 (z * 8)
-  size-cell = omega arith
-
-  pub size-next : Fits w64 (z + 1)
-  size-next = omega arith
-
-  pub next-cell : Fits w64 ((z + 1) * 8)
-  next-cell = omega arith
-
-pub size_in : {z n m : ℕ} → z ≤ n → n + 1 < m → z < m
-size_in h l = omega arith
-
-pub next-in : {z n m : ℕ} → z ≤ n → n + 1 < m → z + 1 < m
-next-in h l = omega arith
-
--- one pair more
-pub handed-fits : {k z n p m : ℕ} → k ≤ (z - 1) * few + p → p < m → m ≤ few → z ≤ n → n ≤ max_tables → Fits w64 (k + 1)
-handed-fits a b c d e = omega arith
-
 -- the result's size, as the code adds it
 pub sum_is : (d : ℕ) {w i : ℕ} → w ≡ i → d + w ≡ d + i
 sum_is d e = ap (λ (x : ℕ). d + x) e
-
-pub sum-known : (d : ℕ) {w i n : ℕ} → w ≡ i → d + i ≤ n → d + w ≤ n
-sum-known d e l = omega arith
-
-pub result_fits : (d : ℕ) {w i n : ℕ} → w ≡ i → d + i ≤ n → n ≤ max_tables → Fits w64 (d + w)
-result_fits d e l u = omega arith
 
 pub inner-ready-at : {g : Graph} {z : Group} {x : ℕ} {p : Spot} → At g z x p → (1 ≤ p.size) × (p.size ≤ inner_at z p.size)
 inner-ready-at a = (a.from_one, a.to_last.rising)

@@ -27,7 +27,7 @@ module _ {g : Graph} {fixed outer inner result : List ℕ} {group : Group} {old 
   handing-unique {v} h h' =
       let s = same_Some _ _ (sym h.at ∙ h'.at) in
       let r = row_one g _ _ h.row_from h.row-to h'.row_from h'.row-to (h.row-set ∙ ap (λ (p : Spot). union (pair_at g p)) s ∙ sym h'.row-set) in
-      let o = best-unique h.best (rw ← s at h'.best) in
+      let o = best-unique h.best (rw s h'.best) in
       let p = next-unique h.next h'.next in (
         h.worker ∙ (λ t. record { share = v.share; place = p t; last = r t; handed = v.handed + 1 }) ∙ sym h'.worker,
         h.changed ∙ (λ t. stored old (r t) (kept (choice_in old (r t)) (o t))) ∙ sym h'.changed,
