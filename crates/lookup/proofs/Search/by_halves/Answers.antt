@@ -2,15 +2,15 @@ use mathlib.Core.Path.{sym, ◌∙◌}
 use Prim.Native.Nat.{ℕ, ◌+◌, ◌-◌, ◌/◌}
 use native.Mathlib.Omega.{arith}
 use Rattle.lookup.specs.FindLaws.{look-behind, look-ahead}
-use Rattle.lookup.proofs.find.row_of.Goals as goal
+use Rattle.lookup.proofs.Search.by_halves.Goals as goal
 
 pub loop-low-init : goal.loop-low-init
 loop-low-init c = (omega arith, omega arith, omega arith, λ p h. (h.after, omega (arith, h.ahead)))
 
 pub comes_first-requires : goal.comes_first-requires
 comes_first-requires c =
-    let z = c.requires.0 in
-    (z.sized _ (omega arith) (omega arith), z.below _ (omega arith) (omega arith), c.requires.2)
+    let z = c.args.self.now.rows.0 in
+    (z.sized _ (omega arith) (omega arith), z.below _ (omega arith) (omega arith), c.args.self.now.rows.2)
 
 pub loop-low-preserved-then-comes_first : goal.loop-low-preserved-then-comes_first
 loop-low-preserved-then-comes_first c =
@@ -18,7 +18,7 @@ loop-low-preserved-then-comes_first c =
       omega arith,
       omega arith,
       c.loop-low.invariant.2,
-      λ p h. (look-behind c.args.sets.now c.args.from c.args.to c.args.s m c.requires.0 c.requires.1 (omega arith) (omega arith) c.requires.2 (sym c.comes_first.ensures ∙ c.if-comes_first.true) p h, (c.loop-low.invariant.3 p h).1),
+      λ p h. (look-behind c.args.self.now.sets.now c.args.self.now.from c.args.self.now.to c.args.self.now.set m c.args.self.now.rows.0 c.args.self.now.rows.1 (omega arith) (omega arith) c.args.self.now.rows.2 (sym c.comes_first.ensures ∙ c.if-comes_first.true) p h, (c.loop-low.invariant.3 p h).1),
     )
 
 pub loop-low-preserved : goal.loop-low-preserved
@@ -27,7 +27,7 @@ loop-low-preserved c =
       c.loop-low.invariant.0,
       omega arith,
       omega arith,
-      λ p h. ((c.loop-low.invariant.3 p h).0, look-ahead c.args.sets.now c.args.from c.args.to c.args.s m c.requires.0 c.requires.1 (omega arith) (omega arith) c.requires.2 (sym c.comes_first.ensures ∙ c.if-comes_first.false) p h),
+      λ p h. ((c.loop-low.invariant.3 p h).0, look-ahead c.args.self.now.sets.now c.args.self.now.from c.args.self.now.to c.args.self.now.set m c.args.self.now.rows.0 c.args.self.now.rows.1 (omega arith) (omega arith) c.args.self.now.rows.2 (sym c.comes_first.ensures ∙ c.if-comes_first.false) p h),
     )
 
 pub returns : goal.returns
