@@ -7,7 +7,7 @@ ghost use Rattle.turns.specs.Taken.{columns_of, StepBy, TurnBy};
 
 use super::setting::Setting;
 use crew::{Handed, Worker};
-use lookup::seek::seek;
+use lookup::Search;
 use pairs::find::{inner_at, next_pair};
 use results::keep::Columns;
 use results::price::Part;
@@ -40,13 +40,13 @@ pub fn step(
         estimate: setting.estimates[spot.inner],
     };
     let z = spot.size + inner_at(group, spot.size);
-    let row = seek(
-        footing.sets,
-        footing.starts[z],
-        footing.starts[z + 1],
-        worker.last,
-        x.set + y.set,
-    );
+    let sought = Search {
+        sets: footing.sets,
+        from: footing.starts[z],
+        to: footing.starts[z + 1],
+        set: x.set + y.set,
+    };
+    let row = sought.seek(worker.last);
     let base = columns.costs[spot.row] + columns.costs[spot.inner];
     let choice = setting
         .rates

@@ -70,19 +70,19 @@ inner_at-requires c =
     let at = c.in-Some.is in
     inner-ready-at (r.waits.there _ at).0
 
-pub overflow_add-x : goal.overflow_add-x
-overflow_add-x c =
+pub overflow_add-sought-2 : goal.overflow_add-sought-2
+overflow_add-sought-2 c =
     let b = board-by c.args.setting.now c.requires.open in
     let r = c.requires.ready in
     let at = c.in-Some.is in
     omega (arith, (seek-ready b r at _ (sum_is c.in-Some.spot.size c.inner_at.ensures)).2)
 
-pub seek-row-requires : goal.seek-row-requires
-seek-row-requires c =
+pub invariant_of-sought : goal.invariant_of-sought
+invariant_of-sought c =
     let b = board-by c.args.setting.now c.requires.open in
     let r = c.requires.ready in
     let at = c.in-Some.is in
-    seek-ready b r at _ (sum_is c.in-Some.spot.size c.inner_at.ensures)
+    record { rows = seek-ready b r at _ (sum_is c.in-Some.spot.size c.inner_at.ensures) }
 
 pub offset_bounds-columns-spot : goal.offset_bounds-columns-spot
 offset_bounds-columns-spot c =
