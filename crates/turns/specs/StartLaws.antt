@@ -34,7 +34,7 @@ use Rattle.starts.specs.CountLaws.{counts-at, length-starts}
 use Rattle.pairs.specs.Places.{start_of, Fit, Ground}
 use Rattle.pairs.specs.PlaceLaws.{start-next, start-mono, start-memo, memo-inside, memo-row}
 use Rattle.results.specs.Prices.{Methods}
-use Rattle.turns.specs.Standing.{Columns, choice_in, row_in, top_of, result_at, Reach, Board, Handing, Final}
+use Rattle.turns.specs.Standing.{Columns, choice_in, row_in, top_of, result_at, Reach, Open, Board, Handing, Final}
 use Rattle.crew.specs.declared.Worker.{Worker}
 use Rattle.crew.specs.declared.Handed as code
 use Rattle.turns.specs.Index.{index_of, index_at}
@@ -277,18 +277,8 @@ methods-of q z =
     }
 
 -- with the sets that the group reads final, as `Final` and `Standing` say, a turn of it may be taken
-pub board-of : {q : Query} {sets estimates cells starts cell_starts : List ℕ} {group : Group} {c : Columns} → Prepared q sets estimates cells starts cell_starts → Fit q.graph group → top_of group ≤ table_count q.graph → Reach q.graph c
-    → ((S : ℕ) → Connected q.graph S → size S ≤ top_of group → standing.FinalRow q S (row_in q.graph c S))
-    → Board q.graph q.fixed q.per_outer q.per_inner q.per_result sets estimates cells starts cell_starts group c
-board-of {q} {group = group} {c = c} p fit top reach final = record {
-  graph = p.sound.graph;
-  fit = fit;
-  methods = methods-of q p.sound;
-  footing = p.footing;
-  estimated = p.estimated;
-  reach = reach;
-  below = below;
-}
+pub open-of : {q : Query} {group : Group} {c : Columns} → Sound q → Fit q.graph group → top_of group ≤ table_count q.graph → Reach q.graph c → ((S : ℕ) → Connected q.graph S → size S ≤ top_of group → standing.FinalRow q S (row_in q.graph c S)) → Open q.graph group c
+open-of {q} {group} {c} sound fit top reach final = record { fit = fit; reach = reach; below = below }
   where
     below : (r : ℕ) → r < start_of q.graph (top_of group + 1) → get_or c.costs r 0 < cost_bound
     below r l =
@@ -297,4 +287,11 @@ board-of {q} {group = group} {c = c} p fit top reach final = record {
         let d = memo-only q.graph S (at_in 0 (memo q.graph) r h) in
         let x : index_of (memo q.graph) S ≡ r = index_at (memo q.graph) (memo-once q.graph) r S h refl in
         let f : standing.FinalRow q S (choice_in c r) = rw x at (final S d (row_small q.graph (top_of group) r h l)) in
-        least-below q p.sound S (get_or c.costs r 0) f.least
+        least-below q sound S (get_or c.costs r 0) f.least
+
+pub board-of : {q : Query} {sets estimates cells starts cell_starts : List ℕ} {group : Group} {c : Columns} → Prepared q sets estimates cells starts cell_starts → Fit q.graph group → top_of group ≤ table_count q.graph → Reach q.graph c
+    → ((S : ℕ) → Connected q.graph S → size S ≤ top_of group → standing.FinalRow q S (row_in q.graph c S))
+    → Board q.graph q.fixed q.per_outer q.per_inner q.per_result sets estimates cells starts cell_starts group c
+board-of p fit top reach final =
+    let o = open-of p.sound fit top reach final in
+    record { graph = p.sound.graph; fit = fit; methods = methods-of _ p.sound; footing = p.footing; estimated = p.estimated; reach = reach; below = o.below }
