@@ -36,7 +36,7 @@ pub struct Rates<'a> {
     pub outer: &'a [u64],
     pub inner: &'a [u64],
     pub res: &'a [u64],
-    ghost methods: { Methods fixed.now outer.now inner.now res.now },
+    pub ghost methods: { Methods fixed.now outer.now inner.now res.now },
 }
 
 // More than there are methods: a price and a method's number stand in one number, which is the less the less the price is, then the
