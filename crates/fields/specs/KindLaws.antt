@@ -7,7 +7,7 @@ use Rattle.rules.specs.Lines.{fields}
 use Rattle.rules.specs.Reading.{known, letter_of, form_of, all_numbers, number_fields, values, misplaced, excess, line_form, line_number_as}
 use Rattle.fields.specs.declared.kinds.Progress.{Progress}
 use Rattle.fields.specs.declared.kinds.Record.{Record}
-use Rattle.fields.specs.Recorded.{stage_at, number_as, Recorded}
+use Rattle.fields.specs.Recorded.{number_as, Recorded}
 
 -- no letter has more than four numbers
 abbrev pub numbers_of : Option Form → ℕ
@@ -37,7 +37,7 @@ known-few s l f p q = let e : numbers_of (form_of s) ≡ f.numbers = ap numbers_
 pub good-fits : {line : List ℕ} {r : Record} (p : Progress) → 0 ≡ number_as (line_form line) p line → Recorded (line_form line) line r → excess r.kind p.tables p.methods p.edges ≡ false
 unfolding line_number_as
 good-fits {line} {r} p e d =
-    go (not (eqb (length (fields line)) (suc d.numbers))) (not (all_numbers (number_fields line))) (misplaced r.kind (stage_at p.latest) p.tables (get_or (values line) 0 0)) (excess r.kind p.tables p.methods p.edges)
+    go (not (eqb (length (fields line)) (suc d.numbers))) (not (all_numbers (number_fields line))) (misplaced r.kind p.latest p.tables (get_or (values line) 0 0)) (excess r.kind p.tables p.methods p.edges)
     (sym (ap (λ (l : Option Form). number_as l p line) d.form) ∙ sym e)
   where
     go : (a b c x : Bool) → ◌≡◌ {A = ℕ} (cond a 21 (cond b 22 (cond c 23 (cond x 25 0)))) 0 → x ≡ false

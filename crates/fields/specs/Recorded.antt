@@ -1,10 +1,9 @@
 -- What a judged line means.
 use Rattle.std.specs.Prelude.{◌≡◌, true, false, List, ℕ, get_or, Option, Some, None, Result, IfOk}
-use Rattle.rules.specs.declared.forms.Kind.{Kind}
 use Rattle.rules.specs.declared.forms.Form.{Form}
 use Rattle.rules.specs.declared.refusal.Reason.{Reason}
 use Rattle.rules.specs.Verdict.{number_in}
-use Rattle.rules.specs.Reading.{known, stage, all_numbers, number_fields, values, line_form, line_number_as}
+use Rattle.rules.specs.Reading.{known, all_numbers, number_fields, values, line_form, line_number_as}
 use Rattle.fields.specs.declared.kinds.Progress.{Progress}
 use Rattle.fields.specs.declared.kinds.Record.{Record}
 
@@ -13,14 +12,9 @@ abbrev pub ReadAs : List ℕ → Option (List ℕ) → Type 0
 ReadAs line None = all_numbers (number_fields line) ≡ false
 ReadAs line (Some cells) = (all_numbers (number_fields line) ≡ true) × ((k : ℕ) → get_or cells k 0 ≡ get_or (values line) k 0)
 
--- the stage of the latest line, 0 before the first
-abbrev pub stage_at : Option Kind → ℕ
-stage_at None = 0
-stage_at (Some kind) = stage kind
-
 -- the refusal of a line by what its letter says, 0 for none
 abbrev pub number_as : Option Form → Progress → List ℕ → ℕ
-number_as l p line = line_number_as l (stage_at p.latest) p.tables p.methods p.edges line
+number_as l p line = line_number_as l p.latest p.tables p.methods p.edges line
 
 -- kind and numbers of a good line whose letter says l
 pub record Recorded (l : Option Form) (line : List ℕ) (r : Record) : Type 0 where

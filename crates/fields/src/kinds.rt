@@ -2,8 +2,8 @@
 ghost use Rattle.std.specs.Prelude.{◌≡◌, ℕ, suc, ◌≤◌, length, get_or, Some, MatchResult, MatchOption, false, true};
 ghost use Rattle.rules.specs.Limits.{max_tables};
 ghost use Rattle.rules.specs.Lines.{fields};
-ghost use Rattle.rules.specs.Reading.{letter_of, form_of, all_numbers, number_fields, values, misplaced, excess};
-ghost use Rattle.fields.specs.Recorded.{ReadAs, stage_at, Judged, JudgedAs};
+ghost use Rattle.rules.specs.Reading.{letter_of, form_of, stage, all_numbers, number_fields, values, misplaced, excess};
+ghost use Rattle.fields.specs.Recorded.{ReadAs, Judged, JudgedAs};
 
 use super::lines::{count_fields, field_of};
 use super::numbers::read_number;
@@ -11,13 +11,14 @@ use rules::forms::{Form, Kind};
 use rules::refusal::Reason;
 use rules::{Edge, Method, Table};
 
-// How many records of each kind stand in the lists, the kind of the latest line, and the crew once its line is read.
+// How many records of each kind stand in the lists, the stage of the latest line, 0 before the first, and the crew once its line is read.
 #[derive(Clone, Copy, Default)]
 pub struct Progress {
     pub tables: usize,
     pub methods: usize,
     pub edges: usize,
-    pub latest: Option<Kind>,
+    // A number and no Option<Kind>: `judge` answers for any number (docs/PROMISES.md).
+    pub latest: u64,
     pub workers: u64,
     pub scheme: u64,
 }
@@ -66,16 +67,29 @@ fn read_values(line: &[u8], count: usize) -> Option<[u64; 4]>
     Some(cells)
 }
 
+// Where a kind stands in the order of lines.
+pub fn stage_of(kind: Kind) -> u64
+    ensures { result ≡ stage kind }
+{
+    match kind {
+        Kind::Table => 1,
+        Kind::Method => 2,
+        Kind::Edge => 3,
+        Kind::Crew => 4,
+    }
+}
+
 // 23: a table that is not the next, a kind after a later kind, or a second W.
 #[tactic(auto, unfolding(rules::specs::Reading::misplaced))]
 fn is_misplaced(kind: Kind, first: u64, progress: Progress) -> bool
     requires { progress.tables ≤ max_tables }
-    ensures { result ≡ misplaced kind (stage_at progress.latest) progress.tables first }
+    ensures { result ≡ misplaced kind progress.latest progress.tables first }
 {
+    let stage = stage_of(kind);
     match kind {
-        Kind::Table => first != progress.tables as u64 + 1 || Some(kind) < progress.latest,
-        Kind::Method | Kind::Edge => Some(kind) < progress.latest,
-        Kind::Crew => Some(kind) <= progress.latest,
+        Kind::Table => first != progress.tables as u64 + 1 || stage < progress.latest,
+        Kind::Method | Kind::Edge => stage < progress.latest,
+        Kind::Crew => stage <= progress.latest,
     }
 }
 

@@ -1,3 +1,4 @@
+pub mod Lists
 pub mod Records
 pub mod StoreLaws
 pub mod ReadLaws

@@ -7,21 +7,21 @@ use Rattle.rules.specs.declared.forms.Kind.{Kind}
 use Rattle.rules.specs.declared.forms.Kind.TheVariants.{Table, Method, Edge, Crew}
 use Rattle.rules.specs.Limits.{max_bytes}
 use Rattle.rules.specs.Lines.{newline, lines}
-use Rattle.rules.specs.Reading.{Read, values, line_form, line_number, with_record, with_line_as, with_line, stopped, ended, read_from, unfit, reading}
+use Rattle.rules.specs.Reading.{Read, stage, values, line_form, line_number, with_record, with_line_as, with_line, stopped, ended, read_from, unfit, reading}
 use Rattle.fields.specs.declared.kinds.Progress.{Progress}
 use Rattle.fields.specs.declared.kinds.Record.{Record}
-use Rattle.reader.specs.declared.reading.Columns.{Columns}
+use Rattle.reader.specs.Lists.{Lists}
 use Rattle.reader.specs.declared.reading.Stopped.{Stopped}
 use Rattle.rules.specs.declared.refusal.Refusal.{Refusal}
 use Rattle.rules.specs.declared.refusal.Reason.{Reason}
 use Rattle.rules.specs.declared.refusal.Reason.TheVariants.{ListLengths, TableCount, TableOver, MethodCount, MethodOver, EdgeOutside, EdgeItself, EdgeDivisor, EdgeRepeated, Unconnected, CrewRange, TurnWorker, MemoRows, SkipCells, LineFields, LineNumber, LineOrder, TextEnd, LineExcess}
 use Rattle.rules.specs.Verdict.{number_of, none, told}
 use Rattle.fields.specs.Spans.{span}
-use Rattle.fields.specs.Recorded.{stage_at, number_as, Recorded, Judged}
+use Rattle.fields.specs.Recorded.{number_as, Recorded, Judged}
 use Rattle.reader.specs.Records.{Within, Spare, read_of, reading_of, no_line}
 use Rattle.reader.specs.ReadLaws.{Ended, fit_is, line-ends, lines_none, lines_next, after-length, after-ended}
 use Rattle.reader.specs.StoreLaws.{Held, Stored, spare-none, spared-on}
-use Rattle.std.specs.Prelude.{Option, Some, None, Result, Ok, Err, MatchResult, IsErrAnd}
+use Rattle.std.specs.Prelude.{Option, Result, Ok, Err, MatchResult, IsErrAnd}
 use Rattle.rules.specs.declared.forms.Form.{Form}
 
 -- ---- one line
@@ -49,7 +49,7 @@ with-line : {line : List ℕ} {r : Record} (s : Read) → Recorded (line_form li
 with-line {line} {r} s d = ap (λ (x : Option Form). with_line_as x line s) d.form ∙ sym (same-record r.kind r.cells (values line) s d.cells_are)
 
 -- ---- nine columns
-spare-on : (p n : Progress) (a b c : Columns) → p.tables ≤ n.tables → p.methods ≤ n.methods → p.edges ≤ n.edges → Spare p a b → Spare n b c → Spare n a c
+spare-on : (p n : Progress) (a b c : Lists) → p.tables ≤ n.tables → p.methods ≤ n.methods → p.edges ≤ n.edges → Spare p a b → Spare n b c → Spare n a c
 spare-on p n a b c t m e s u = record {
   rows-spare = spared-on p.tables n.tables a.rows b.rows c.rows t s.rows-spare u.rows-spare;
   scans-spare = spared-on p.tables n.tables a.scans b.scans c.scans t s.scans-spare u.scans-spare;
@@ -63,7 +63,7 @@ spare-on p n a b c t m e s u = record {
 }
 
 -- the refusal of the next line by the records so far
-number-here : (p : Progress) (a : Columns) → Held p a → (line : List ℕ) → line_number (read_of p a) line ≡ number_as (line_form line) p line
+number-here : (p : Progress) (a : Lists) → Held p a → (line : List ℕ) → line_number (read_of p a) line ≡ number_as (line_form line) p line
 number-here p a h line =
     let t : length (take p.tables a.rows) ≡ p.tables = length-take-le p.tables a.rows h.tables in
     let m : length (take p.methods a.fixed) ≡ p.methods = length-take-le p.methods a.fixed h.methods in
@@ -72,7 +72,7 @@ number-here p a h line =
 
 -- ---- all lines
 -- between two lines: `rest` is still to be read
-pub record Reads (text rest : List ℕ) (place : ℕ) (p : Progress) (a b : Columns) : Type 0 where
+pub record Reads (text rest : List ℕ) (place : ℕ) (p : Progress) (a b : Lists) : Type 0 where
   pub spare : Spare p a b
   pub within : Within p
   pub held : Held p b
@@ -106,7 +106,7 @@ number-within LineExcess = (omega arith, omega arith)
 nothing-within : (p : Progress) → p ≡ no_line → Within p
 nothing-within p e = rw e (record { tables = omega arith; methods = omega arith; edges = omega arith })
 
-module _ (text : List ℕ) (p : Progress) (z : p ≡ no_line) (u : Bool) (e : u ≡ unfit text) (a : Columns) where
+module _ (text : List ℕ) (p : Progress) (z : p ≡ no_line) (u : Bool) (e : u ≡ unfit text) (a : Lists) where
   pub read-unfit : (f : Refusal) → u ≡ true → f ≡ record { reason = TextEnd; place = 0 } → record { verdict = told f; read = read_of p a } ≡ reading text
   unfolding reading
   read-unfit f t d = let y : unfit text ≡ true = sym e ∙ t in rw (d, z, y) refl
@@ -126,24 +126,16 @@ module _ (text : List ℕ) (p : Progress) (z : p ≡ no_line) (u : Bool) (e : u 
         short = f.short;
       }
 
-module _ {text rest : List ℕ} {place : ℕ} {p : Progress} {a b : Columns} (r : Reads text rest place p a b) where
+module _ {text rest : List ℕ} {place : ℕ} {p : Progress} {a b : Lists} (r : Reads text rest place p a b) where
   -- after the last line
   at-end : length rest ≤ 0 → ended place (read_of p b) ≡ reading text
   at-end l = sym (step_end place (read_of p b)) ∙ ap (read_from place (read_of p b)) (sym (lines_none rest l)) ∙ r.goes
 
-  pub read-crew : length rest ≤ 0 → p.latest ≡ Some Crew → record { verdict = none; read = read_of p b } ≡ reading text
-  read-crew l e = sym (rw e refl) ∙ at-end l
+  pub read-crew : length rest ≤ 0 → p.latest ≡ stage Crew → record { verdict = none; read = read_of p b } ≡ reading text
+  read-crew l e = sym (rw (eq-eqb p.latest (stage Crew) e) refl) ∙ at-end l
 
-  pub read-uncrewed : (f : Refusal) → length rest ≤ 0 → (p.latest ≡ Some Crew → ⊥) → f ≡ record { reason = LineOrder; place = place } → record { verdict = told f; read = read_of p b } ≡ reading text
-  read-uncrewed f l n d = rw d (go p.latest n (at-end l))
-    where
-      go : (k : Option Kind) → (k ≡ Some Crew → ⊥) → ended place (record { query = (read_of p b).query; workers = p.workers; scheme = p.scheme; latest = stage_at k }) ≡ reading text
-          → record { verdict = record { number = 23; place = place }; read = record { query = (read_of p b).query; workers = p.workers; scheme = p.scheme; latest = stage_at k } } ≡ reading text
-      go None n e = e
-      go (Some Table) n e = e
-      go (Some Method) n e = e
-      go (Some Edge) n e = e
-      go (Some Crew) n e = absurd (n refl)
+  pub read-uncrewed : (f : Refusal) → length rest ≤ 0 → (p.latest ≡ stage Crew → ⊥) → f ≡ record { reason = LineOrder; place = place } → record { verdict = told f; read = read_of p b } ≡ reading text
+  read-uncrewed f l n d = rw d (sym (rw (ne_eqb p.latest (stage Crew) n) refl) ∙ at-end l)
 
   module _ (l : 0 < length rest) (e : ℕ) (q : e ≡ span newline rest) where
     pub line-in : e < length rest
@@ -169,7 +161,7 @@ module _ {text rest : List ℕ} {place : ℕ} {p : Progress} {a b : Columns} (r 
         let d : (s.refusal ≡ record { reason = reason; place = place }) × (s.progress ≡ p) = rw z at m in
         rw (d.0, d.1) (sym (step-stop place (read_of p b) (take e rest) (lines after) (number_of reason) (is (number_of reason) j.0) (λ z. omega (arith, z, number-within reason))) ∙ split)
 
-    pub reads-next : {k : Record} {m : Progress} {c : Columns} → Judged p (take e rest) (Ok k) → Stored k.kind k.cells p m b c → Reads text after (place + 1) m a c
+    pub reads-next : {k : Record} {m : Progress} {c : Lists} → Judged p (take e rest) (Ok k) → Stored k.kind k.cells p m b c → Reads text after (place + 1) m a c
     reads-next {k} {m} {c} j s =
         let w = s.read ∙ sym (with-line (read_of p b) j.1) in
         record {

@@ -1,29 +1,16 @@
 // The lines in a row: each good line's record goes to the columns of its kind.
 ghost use Rattle.std.specs.Prelude.{◌≡◌, false};
 ghost use Rattle.rules.specs.Reading.{excess, unfit, reading};
-ghost use Rattle.reader.specs.Records.{Within, Spare, progress_of, reading_of};
+ghost use Rattle.reader.specs.Records.{Within, Spare, SameColumns, lists_of, progress_of, reading_of};
 ghost use Rattle.reader.specs.StoreLaws.{Stored};
 
-use fields::kinds::{Progress, Record, judge};
+use super::columns::Columns;
+use fields::kinds::{Progress, Record, judge, stage_of};
 use fields::lines::span_to;
 use rules::forms::Kind;
 use rules::refusal::{Reason, Refusal};
 
 const MAX_BYTES: usize = 16_384;
-
-// What a text's records are read into: room for all that a text may have.
-#[derive(Clone, Copy)]
-pub struct Columns {
-    pub rows: [u64; 16],
-    pub scans: [u64; 16],
-    pub left: [u64; 120],
-    pub right: [u64; 120],
-    pub divisors: [u64; 120],
-    pub fixed: [u64; 4],
-    pub per_outer: [u64; 4],
-    pub per_inner: [u64; 4],
-    pub per_result: [u64; 4],
-}
 
 // A refused text, and how far its lines were good.
 #[derive(Clone, Copy)]
@@ -40,17 +27,18 @@ fn is_unfit(text: &[u8]) -> bool
     MAX_BYTES < text.len() || text.last().is_some_and(|&b| b != b'\n')
 }
 
-impl Columns {
+impl<'a> Columns<'a> {
     // A good line's record goes to the end of the columns of its kind.
     #[tactic(auto, unfolding(rules::specs::Reading::excess))]
     fn store(&mut self, entry: Record, progress: Progress) -> Progress
         requires within { Within progress }
         requires fits { excess entry.kind progress.tables progress.methods progress.edges ≡ false }
-        ensures { Stored entry.kind entry.cells progress result self.old self.new }
+        ensures stored { Stored entry.kind entry.cells progress result (lists_of self.old) (lists_of self.new) }
+        ensures same_columns { SameColumns self.new self.old }
     {
         let cells = entry.cells;
         let mut next = progress;
-        next.latest = Some(entry.kind);
+        next.latest = stage_of(entry.kind);
         match entry.kind {
             Kind::Table => {
                 let at = progress.tables;
@@ -84,9 +72,10 @@ impl Columns {
 
 // Reads a text into columns, or refuses it.
 pub fn read(text: &[u8], columns: &mut Columns) -> Result<Progress, Stopped>
-    ensures read { reading_of result columns.new ≡ reading text.now }
-    ensures spare { Spare (progress_of result) columns.old columns.new }
+    ensures read { reading_of result (lists_of columns.new) ≡ reading text.now }
+    ensures spare { Spare (progress_of result) (lists_of columns.old) (lists_of columns.new) }
     ensures within { Within (progress_of result) }
+    ensures same_columns { SameColumns columns.new columns.old }
 {
     let mut progress = Progress::default();
     if is_unfit(text) {
@@ -108,7 +97,7 @@ pub fn read(text: &[u8], columns: &mut Columns) -> Result<Progress, Stopped>
         place += 1;
         progress = columns.store(entry, progress);
     }
-    if progress.latest != Some(Kind::Crew) {
+    if progress.latest != stage_of(Kind::Crew) {
         return Err(Stopped {
             refusal: Reason::LineOrder.at(place),
             progress,

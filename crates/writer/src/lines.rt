@@ -1,12 +1,10 @@
 // The three kinds of line of an answer: "Answer lines part their fields by one blank, not a tab, and end in LF."
 ghost use Rattle.std.specs.Prelude.{◌∷◌, [], ◌≤◌, ◌+◌, length};
-ghost use Rattle.rules.specs.Verdict.{told};
 ghost use Rattle.rules.specs.Writing.{blank, digits_of, set_text, answer_line, plan_line, join_line, refusal_line};
 ghost use Rattle.digits.specs.Put.{Put};
 
 use digits::Line;
 use rules::JoinStep;
-use rules::refusal::Refusal;
 
 const BLANK: u8 = b' ';
 
@@ -48,13 +46,13 @@ pub fn put_plan(line: &mut Line, best: u64, pairs: u64)
     put_two(line, b'P', best, pairs);
 }
 
-// "A refusal is one line: `X`, number, place, with single blanks."
+// "A refusal is one line: `X`, number, place, with single blanks.", of any number and place (docs/PROMISES.md), so no Refusal.
 #[tactic(auto, unfolding(rules::specs::Writing::refusal_line))]
-pub fn put_refusal(line: &mut Line, refusal: Refusal)
-    requires { line.old.at + length (refusal_line (told refusal)) ≤ length line.old.out.now }
-    ensures { Put line.old line.new (refusal_line (told refusal)) }
+pub fn put_refusal(line: &mut Line, number: u64, place: u64)
+    requires { line.old.at + length (refusal_line (record { number = number; place = place })) ≤ length line.old.out.now }
+    ensures { Put line.old line.new (refusal_line (record { number = number; place = place })) }
 {
-    put_two(line, b'X', refusal.reason.number(), refusal.place);
+    put_two(line, b'X', number, place);
 }
 
 // "J: outer tables, inner tables, method, estimate, cost"
