@@ -74,8 +74,8 @@ rooms-place i = go (ltb (length i.lent.sets) (length (memo i.query.graph))) (ltb
     go false false = refl
 
 -- a refusal with nothing changed is what planning promises
-pub planned-refused : (i : Input) {r : Refusal} {left : Memory} → told r ≡ verdict i → left ≡ i.lent → Planned i (outcome_of (Err r) left)
-planned-refused i {r} e l = record { given = λ z. absurd (some-number r.reason (ap (λ (x : Verdict). x.number) e ∙ z)); refused = λ _. record { answer = ap refusal e; lent = l } }
+pub planned-refused : (i : Input) (r : Refusal) {left : Memory} → told r ≡ verdict i → left ≡ i.lent → Planned i (outcome_of (Err r) left)
+planned-refused i r e l = record { given = λ z. absurd (some-number r.reason (ap (λ (x : Verdict). x.number) e ∙ z)); refused = λ _. record { answer = ap refusal e; lent = l } }
 
 -- the checks of an input, as `check` says them
 pub checks-are : (i : Input) → first_of (checks_of i.query i.workers i.scheme i.turns (memo_lengths i.lent) (log_lengths i.lent)) ≡ first_of (checks i)
@@ -119,14 +119,14 @@ laid-lengths {g} {old} {new} z = go (dec_lt (length old.sets) (length (memo g)))
         }
 
 -- refused by the checks
-pub planned-checks : (i : Input) {r : Refusal} {left : Memory} → told r ≡ first_of (checks i) → left ≡ i.lent → Planned i (outcome_of (Err r) left)
-planned-checks i {r} e l = planned-refused i (e ∙ sym (verdict-checks i (λ z. some-number r.reason (ap (λ (x : Verdict). x.number) e ∙ z)))) l
+pub planned-checks : (i : Input) (r : Refusal) {left : Memory} → told r ≡ first_of (checks i) → left ≡ i.lent → Planned i (outcome_of (Err r) left)
+planned-checks i r e l = planned-refused i r (e ∙ sym (verdict-checks i (λ z. some-number r.reason (ap (λ (x : Verdict). x.number) e ∙ z)))) l
 
 -- refused for room
-pub planned-rooms : (i : Input) {r : Refusal} {left : Memory} {new : Lent} → (first_of (checks i)).number ≡ 0 → LaidOut i.query.graph (lent_of i.lent) new (Err r) → (new ≡ lent_of i.lent → left ≡ i.lent) → Planned i (outcome_of (Err r) left)
-planned-rooms i {r} {new = new} e z l =
+pub planned-rooms : (i : Input) (r : Refusal) {left : Memory} {new : Lent} → (first_of (checks i)).number ≡ 0 → LaidOut i.query.graph (lent_of i.lent) new (Err r) → (new ≡ lent_of i.lent → left ≡ i.lent) → Planned i (outcome_of (Err r) left)
+planned-rooms i r {new = new} e z l =
     let v : told r ≡ verdict i = (λ t. record { number = laid-verdict i z t; place = (place (dec_lt (length i.lent.sets) (length (memo g))) (dec_lt (length i.lent.skips) (length (skips g))) ∙ sym (rooms-place i)) t }) ∙ sym (verdict-rooms i e) in
-    planned-refused i v (l (unchanged (dec_lt (length i.lent.sets) (length (memo g))) (dec_lt (length i.lent.skips) (length (skips g)))))
+    planned-refused i r v (l (unchanged (dec_lt (length i.lent.sets) (length (memo g))) (dec_lt (length i.lent.skips) (length (skips g)))))
   where
     g : Graph
     g = i.query.graph

@@ -1,9 +1,14 @@
 -- What `plan` takes and gives, as the rules see it.
-use Rattle.std.specs.Prelude.{List, ℕ, Result, Ok, Err}
+use Rattle.std.specs.Prelude.{◌≡◌, List, ℕ, Result, Ok, Err, Some}
 use Rattle.rules.specs.declared.refusal.Refusal.{Refusal}
 use Rattle.rules.specs.Verdict.{told}
-use Rattle.rules.specs.Query.{Query}
-use Rattle.rules.specs.Refusals.{Memory, Input}
+use Rattle.rules.specs.declared.Crew.{Crew}
+use Rattle.rules.specs.Kinds.{new_crew}
+use Rattle.rules.specs.Query.{Graph, Query}
+use Rattle.rules.specs.Refusals.{Memory, Input, first_of, checks}
+use Rattle.memo.specs.Layout.{Lent}
+use Rattle.results.specs.declared.price.Rates.{Rates}
+use Rattle.runs.specs.Views.{query_by}
 use Rattle.rules.specs.Answers as rules
 use Rattle.planner.specs.declared.Answer.{Answer}
 
@@ -32,3 +37,17 @@ answer_of (Err r) = rules.refusal (told r)
 
 abbrev pub outcome_of : Result Answer Refusal → Memory → rules.Outcome
 outcome_of a left = record { answer = answer_of a; left = left }
+
+-- ---- between the checks and the answer
+-- lent memory by its two parts
+abbrev pub memory_in : Lent → Memory → Memory
+memory_in m log = memory_of m.sets m.estimates m.costs m.outers m.methods m.skips log.log_workers log.log_driving log.log_inner log.log_costs
+
+-- an input by what the code holds of it
+abbrev pub input_by : Graph → List ℕ → Rates → ℕ → ℕ → List ℕ → Lent → Memory → Input
+input_by g scans rates workers scheme turns m log = input_of (query_by g scans rates) workers scheme turns (memory_in m log)
+
+-- it has passed checks 1 to 12, and has this crew
+pub record Passed (i : Input) (crew : Crew) : Type 0 where
+  pub checks : (first_of (checks i)).number ≡ 0
+  pub named : new_crew i.workers i.scheme ≡ Some crew

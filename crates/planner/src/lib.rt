@@ -1,9 +1,13 @@
 // The library's entry: checks, laying out, the turns in a row, the answer.
 #![tactic(auto)]
 
+ghost use Rattle.std.specs.Prelude.{ℕ};
 ghost use Rattle.rules.specs.Answers.{Planned};
 ghost use Rattle.query.specs.Lists.{query_of};
-ghost use Rattle.planner.specs.Plans.{memory_of, input_of, outcome_of};
+ghost use Rattle.memo.specs.Layout.{held, SameLists};
+ghost use Rattle.crew.specs.Lent.{SameColumns};
+ghost use Rattle.crew.specs.Lent.{memory_of as logged};
+ghost use Rattle.planner.specs.Plans.{memory_of, memory_in, input_of, input_by, outcome_of, Passed};
 
 use crew::log::Log;
 use memo::layout::lay_out;
@@ -14,6 +18,7 @@ use refusals::{Lengths, check};
 use results::keep::Columns;
 use results::price::Rates;
 use rows::tally::{Tally, count_rows};
+use rules::Crew;
 use rules::refusal::Refusal;
 use runs::search::search;
 
@@ -27,30 +32,77 @@ pub struct Answer {
     pub counts: [u64; 8],
 }
 
-// Plans a query in lent memory, or refuses it with a number and a place and nothing changed.
-pub fn plan(
-    rows: &[u64],
+// Plans a query that has passed the checks, or refuses it for too little room.
+fn plan_checked<'a>(
+    tally: &Tally<'a>,
     scans: &[u64],
-    left: &[u64],
-    right: &[u64],
-    divisors: &[u64],
-    fixed: &[u64],
-    per_outer: &[u64],
-    per_inner: &[u64],
-    per_result: &[u64],
+    rates: &Rates<'a>,
+    crew: Crew,
+    turns: &[u64],
+    memo: &mut Memo,
+    log: &mut Log,
+) -> Result<Answer, Refusal>
+    requires { (workers : ℕ) × (scheme : ℕ) × Passed (input_by tally.now.graph.now scans.now rates.now workers scheme turns.now (held memo.old) (logged log.old)) crew }
+    ensures planned { (workers scheme : ℕ) → Passed (input_by tally.now.graph.now scans.now rates.now workers scheme turns.now (held memo.old) (logged log.old)) crew → Planned (input_by tally.now.graph.now scans.now rates.now workers scheme turns.now (held memo.old) (logged log.old)) (outcome_of result (memory_in (held memo.new) (logged log.new))) }
+    ensures same_memo { SameLists memo.old memo.new }
+    ensures same_log { SameColumns log.new log.old }
+{
+    let laid = lay_out(tally, memo)?;
+    let mut columns = Columns {
+        costs: &mut *memo.costs,
+        outers: &mut *memo.outers,
+        methods: &mut *memo.methods,
+    };
+    let sets = &*memo.sets;
+    let estimates = &*memo.estimates;
+    let skips = &*memo.skips;
+    let found = search(
+        tally,
+        scans,
+        rates,
+        crew,
+        turns,
+        sets,
+        estimates,
+        skips,
+        &mut columns,
+        log,
+    );
+    let best = columns.costs[laid.rows as usize - 1];
+    let counts = found.counts;
+    Ok(Answer {
+        best,
+        rows: laid.rows,
+        cells: laid.cells,
+        pairs: found.pairs as u64,
+        counts,
+    })
+}
+
+// Plans a query in lent memory, or refuses it with a number and a place and nothing changed.
+pub fn plan<'q, 'm, 'l>(
+    rows: &'q [u64],
+    scans: &'q [u64],
+    left: &'q [u64],
+    right: &'q [u64],
+    divisors: &'q [u64],
+    fixed: &'q [u64],
+    per_outer: &'q [u64],
+    per_inner: &'q [u64],
+    per_result: &'q [u64],
     workers: u64,
     scheme: u64,
     turns: &[u64],
-    sets: &mut [u64],
-    estimates: &mut [u64],
-    costs: &mut [u64],
-    outers: &mut [u64],
-    methods: &mut [u64],
-    skips: &mut [u64],
-    log_workers: &mut [u64],
-    log_driving: &mut [u64],
-    log_inner: &mut [u64],
-    log_costs: &mut [u64],
+    sets: &'m mut [u64],
+    estimates: &'m mut [u64],
+    costs: &'m mut [u64],
+    outers: &'m mut [u64],
+    methods: &'m mut [u64],
+    skips: &'m mut [u64],
+    log_workers: &'l mut [u64],
+    log_driving: &'l mut [u64],
+    log_inner: &'l mut [u64],
+    log_costs: &'l mut [u64],
 ) -> Result<Answer, Refusal>
     ensures { Planned (input_of (query_of rows.now scans.now left.now right.now divisors.now fixed.now per_outer.now per_inner.now per_result.now) workers scheme turns.now (memory_of sets.old estimates.old costs.old outers.old methods.old skips.old log_workers.old log_driving.old log_inner.old log_costs.old)) (outcome_of result (memory_of sets.new estimates.new costs.new outers.new methods.new skips.new log_workers.new log_driving.new log_inner.new log_costs.new)) }
 {
@@ -92,6 +144,12 @@ pub fn plan(
         graph: &graph,
         counts: &counts,
     };
+    let rates = Rates {
+        fixed,
+        outer: per_outer,
+        inner: per_inner,
+        res: per_result,
+    };
     let mut memo = Memo {
         sets,
         estimates,
@@ -100,41 +158,11 @@ pub fn plan(
         methods,
         skips,
     };
-    let laid = lay_out(&tally, &mut memo)?;
-    let rates = Rates {
-        fixed,
-        outer: per_outer,
-        inner: per_inner,
-        res: per_result,
-    };
-    let mut columns = Columns {
-        costs: memo.costs,
-        outers: memo.outers,
-        methods: memo.methods,
-    };
     let mut log = Log {
         workers: log_workers,
         driving: log_driving,
         inner: log_inner,
         costs: log_costs,
     };
-    let found = search(
-        &tally,
-        scans,
-        &rates,
-        crew,
-        turns,
-        memo.sets,
-        memo.estimates,
-        memo.skips,
-        &mut columns,
-        &mut log,
-    );
-    Ok(Answer {
-        best: columns.costs[laid.rows as usize - 1],
-        rows: laid.rows,
-        cells: laid.cells,
-        pairs: found.pairs as u64,
-        counts: found.counts,
-    })
+    plan_checked(&tally, scans, &rates, crew, turns, &mut memo, &mut log)
 }

@@ -274,3 +274,7 @@ nobodies {v} e = (length-replicate max_workers v, λ w. ap (λ (x : Worker). wor
     each_same zero w = refl
     each_same (suc n) zero = refl
     each_same (suc n) (suc w) = each_same n w
+
+-- laying out changes no length
+pub laid-length : (l v : List ℕ) {l' : List ℕ} → l' ≡ written l 0 v → length l' ≡ length l
+laid-length l v e = ap length e ∙ (spared-written (length v) 0 v l (omega arith)).length-kept
