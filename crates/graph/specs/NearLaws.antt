@@ -61,10 +61,6 @@ shared a b n =
 pub overlap-none : (x y : ℕ) (r : Bool) → r ≡ not (disjoint x y) → r ≡ false → Disjoint x y
 overlap-none x y r e h = eqb-true (bit_and x y) 0 (not-false (disjoint x y) (sym e ∙ h))
 
-pub no-yes : {A : Type 0} (d : Dec A) → (A → ⊥) → is_yes d ≡ false
-no-yes (yes a) n = absurd (n a)
-no-yes (no m) n = refl
-
 -- a set's part and the rest of it
 part-bits : (X S : ℕ) → ((i : ℕ) → bit i X ≡ 1 → bit i S ≡ 1) → (X ≤ S) × Disjoint X (S - X)
 unfolding bit

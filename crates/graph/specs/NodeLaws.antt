@@ -12,12 +12,13 @@ use Rattle.rules.specs.laws.Bools.{true-or-false, yes_true, true-yes}
 use Rattle.rules.specs.laws.Sets.{holds-pos, holds-lt, holds-sum, holds-apart, holds-single, holds-single-only}
 use Rattle.rules.specs.laws.Connected.{within_same, connected-join, connected-single, connected-between}
 use Rattle.rules.specs.laws.Decide.{connected?}
+use Rattle.query.specs.ConnectedLaws.{no-yes}
 use Rattle.graph.specs.Walk.{walk, onward}
 use Rattle.graph.specs.Near.{Told}
 use Rattle.graph.specs.Node.{taking, Node, Grows, Stuck}
 use Rattle.graph.specs.declared.chosen.Chosen.{Chosen}
 use Rattle.graph.specs.ApartLaws.{apart-tables, onward-holds, walk-without, walk-apart, below-with, below-without}
-use Rattle.graph.specs.NearLaws.{in_left, in_right, shared, no-yes, either-of, either_left, either-right}
+use Rattle.graph.specs.NearLaws.{in_left, in_right, shared, either-of, either_left, either-right}
 
 -- ---- a node's sets
 module _ {g : Graph} {near : List ℕ} {n t : ℕ} {chosen : Chosen} (d : Node g near n t chosen) where

@@ -17,6 +17,7 @@ use Rattle.rules.specs.laws.Sets.{bit_le, holds-bit, holds-none, holds-pos, hold
 use Rattle.rules.specs.laws.Refusals.{joins_true, true-joins}
 use Rattle.rules.proofs.laws.Estimate.{running-le}
 use Rattle.graph.specs.declared.chosen.Chosen.{Chosen}
+use Rattle.query.specs.EdgeLaws.{holds-le}
 use Rattle.graph.specs.Node.{Node}
 use Rattle.graph.specs.ApartLaws.{apart-tables, below-with}
 use Rattle.graph.specs.NearLaws.{both_of, both-in, in_right}
@@ -123,10 +124,6 @@ module _ (g : Graph) (u t r : ℕ) where
       go (no e) ih = rw (joins-not n (λ p. (good.edges n (omega arith)).new i (omega arith) (both-join n i p o))) (ih (omega arith))
 
 -- ---- tables of a set
-holds-le : (S u : ℕ) → holds S u ≤ 1
-holds-le S zero = omega (arith, holds-none S)
-holds-le S (suc i) = omega (arith, holds-bit S i, bit_le i S)
-
 not-held : (S u : ℕ) → (holds S u ≡ 1 → ⊥) → holds S u ≡ 0
 not-held S u h = go (ℕ_discrete (holds S u) 1)
   where

@@ -121,7 +121,7 @@ part-start g s t l h =
     record { connected = connected-single g t (record { from_one = r.0; to-count = r.1 }); splits = holds-minus s t h.stands }
 
 -- ---- the answer
-no-yes : {A : Type 0} (d : Dec A) → (A → ⊥) → is_yes d ≡ false
+pub no-yes : {A : Type 0} (d : Dec A) → (A → ⊥) → is_yes d ≡ false
 no-yes (yes a) n = absurd (n a)
 no-yes (no m) n = refl
 

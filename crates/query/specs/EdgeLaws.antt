@@ -43,7 +43,7 @@ unfolding holds
 holds-either x y zero = refl
 holds-either x y (suc i) = rw (or_shr x y i) (omega (arith, or_step (x / 2 ^ i) (y / 2 ^ i)))
 
-holds-le : (S t : ℕ) → holds S t ≤ 1
+pub holds-le : (S t : ℕ) → holds S t ≤ 1
 unfolding holds
 holds-le S zero = omega arith
 holds-le S (suc i) = omega arith

@@ -13,7 +13,7 @@ use Rattle.graph.specs.Walk.{walk}
 use Rattle.graph.specs.Near.{Near}
 use Rattle.graph.specs.declared.chosen.Chosen.{Chosen}
 use Rattle.graph.specs.Node.{Node}
-use Rattle.graph.specs.NearLaws.{no-yes}
+use Rattle.query.specs.ConnectedLaws.{no-yes}
 use Rattle.rows.specs.Tally.{found, Tallied, Counting, Tally}
 use Rattle.rows.specs.WalkLaws.{walk-fits}
 use Rattle.rows.specs.FoundLaws.{found_first}
