@@ -2,21 +2,18 @@
 // turn".
 ghost use Rattle.std.specs.Prelude.{◌≡◌, ◌≤◌};
 ghost use Rattle.rules.specs.Limits.{max_workers};
-ghost use Rattle.crew.specs.Whose.{LowestLeft, whose, entries_on};
+ghost use Rattle.crew.specs.Whose.{Lowest, whose, entries_on};
 
 use super::Worker;
-use super::table::lowest_left;
 
-// The lowest of `count` workers with a pair left, or `count`.
-pub fn lowest(workers: [Worker; 8], count: usize) -> usize
+// The lowest of `count` workers with a pair left.
+pub fn lowest(workers: &[Worker; 8], count: usize) -> Option<usize>
     requires { count ≤ max_workers }
-    ensures { LowestLeft workers count result }
+    ensures { Lowest workers.now count result }
 {
-    let low = lowest_left(workers);
-    if low < count {
-        return low;
-    }
-    count
+    workers[..count]
+        .iter()
+        .position(|worker| worker.place.pair.is_some())
 }
 
 // The worker that entry `at` of the list names, or, where the list is used up, `low`.
@@ -24,17 +21,15 @@ pub fn whose_turn(turns: &[u64], at: usize, low: usize) -> usize
     ensures { result ≡ whose turns.now at low }
 {
     if at < turns.len() {
-        return turns[at] as usize;
+        turns[at] as usize
+    } else {
+        low
     }
-    low
 }
 
 // How many of `count` entries are used after one more turn.
 pub fn entries_on(count: usize, at: usize) -> usize
     ensures { result ≡ entries_on count at }
 {
-    if at < count {
-        return at + 1;
-    }
-    at
+    if at < count { at + 1 } else { at }
 }

@@ -8,7 +8,6 @@ use Rattle.std.proofs.Math.Arith.{bin_ind}
 use Rattle.std.specs.Int.Bits.{bit_and, bit_or, and_step, or_step, and_zero_l}
 use Rattle.std.proofs.lemmas.Nat.{and_shr, or_shr, and_le_r}
 use Rattle.std.proofs.lemmas.Bool.{not-false}
-use Rattle.rules.specs.Lists.{is_yes}
 use Rattle.rules.specs.Sets.{holds, Splits, single, Lowest, Disjoint, disjoint}
 use Rattle.rules.specs.Query.{Graph, table_count, at, IsTable, Linked}
 use Rattle.rules.specs.Connected.{Connected}

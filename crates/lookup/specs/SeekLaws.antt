@@ -1,8 +1,7 @@
 -- What one look at a row tells of the place of a set, by the code's tests, and the rows of a part.
-use Rattle.std.specs.Prelude.{◌≡◌, Bool, true, false, not, List, ℕ, ◌+◌, ◌^◌, ◌≤◌, ◌<◌, get_or}
+use Rattle.std.specs.Prelude.{◌≡◌, Bool, true, false, List, ℕ, ◌+◌, ◌^◌, ◌≤◌, ◌<◌, get_or}
 use Rattle.std.proofs.Common.{sym, ap, ◌∙◌, arith}
 use Rattle.std.proofs.Math.Decide.{dec_lt}
-use Rattle.std.proofs.lemmas.Bool.{not-true, not-false}
 use Rattle.rules.specs.Sets.{size, tables}
 use Rattle.rules.specs.Rows.{before}
 use Rattle.rules.specs.laws.Bools.{not-both}
@@ -36,15 +35,15 @@ module _ {sets : List ℕ} {from to s : ℕ} (m : ℕ) (z : SizeRows sets from t
   look-found e p h = omega (arith, not-before (rw e (before_self (tables 32 s))) p h, look-ahead sets from to s m z o lm mt ls (rw e (before_self (tables 32 s))) p h)
 
   -- s comes after the row: it stands behind it
-  pub look-after : {b : Bool} → b ≡ before (tables 32 (get_or sets m 0)) (tables 32 s) → not b ≡ false → (p : ℕ) → Stands sets from to s p → m + 1 ≤ p
-  look-after e f = look-behind sets from to s m z o lm mt ls (sym e ∙ not-false _ f)
+  pub look-after : {b : Bool} → b ≡ before (tables 32 (get_or sets m 0)) (tables 32 s) → b ≡ true → (p : ℕ) → Stands sets from to s p → m + 1 ≤ p
+  look-after e f = look-behind sets from to s m z o lm mt ls (sym e ∙ f)
 
   -- it does not, and the row does not hold it: it stands ahead
-  pub look-before : {b : Bool} → b ≡ before (tables 32 (get_or sets m 0)) (tables 32 s) → not b ≡ true → (get_or sets m 0 ≡ s → ⊥) → (p : ℕ) → Stands sets from to s p → p < m
+  pub look-before : {b : Bool} → b ≡ before (tables 32 (get_or sets m 0)) (tables 32 s) → b ≡ false → (get_or sets m 0 ≡ s → ⊥) → (p : ℕ) → Stands sets from to s p → p < m
   look-before e f n p h = go (dec_lt p m)
     where
       go : Dec (p < m) → p < m
       go (yes l) = l
       go (no g) =
-          let d : m ≡ p = omega (arith, look-ahead sets from to s m z o lm mt ls (sym e ∙ not-true _ f) p h) in
+          let d : m ≡ p = omega (arith, look-ahead sets from to s m z o lm mt ls (sym e ∙ f) p h) in
           absurd (n (ap (λ (q : ℕ). get_or sets q 0) d ∙ h.there))

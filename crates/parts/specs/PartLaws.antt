@@ -13,7 +13,7 @@ use Rattle.rules.specs.Query.{Graph, table_count, edge_count, at, IsTable, Joins
 use Rattle.rules.specs.Checked.{GoodGraph}
 use Rattle.rules.specs.Estimate.{joins_at, divided, by_edges, by_lower, with_table, running, estimate}
 use Rattle.rules.specs.laws.Bools.{true-or-false}
-use Rattle.rules.specs.laws.Sets.{bit_le, holds-bit, holds-none, holds-pos, holds-lt, lt-of-holds, holds-sum, holds-single, holds-single-only, holds-out, holds-minus, union-of}
+use Rattle.rules.specs.laws.Sets.{holds-pos, holds-lt, lt-of-holds, holds-sum, holds-single, holds-single-only, holds-out, holds-minus, union-of}
 use Rattle.rules.specs.laws.Refusals.{joins_true, true-joins}
 use Rattle.rules.proofs.laws.Estimate.{running-le}
 use Rattle.graph.specs.declared.chosen.Chosen.{Chosen}

@@ -5,4 +5,4 @@ use Rattle.memo.proofs.layout.lay_out.Goals as goal
 
 pub returns-then-lent-rows-clause-laid : goal.returns-then-lent-rows-clause-laid
 returns-then-lent-rows-clause-laid c =
-    too-few-rows c.args.tally.now.graph.now (held c.args.lent.now) c.rows-rows.ensures c.if-lent-rows.true refl
+    rw c.at.ensures (too-few-rows c.args.tally.now.graph.now (held c.args.lent.now) c.rows-rows.ensures c.if-lent-rows.true refl)

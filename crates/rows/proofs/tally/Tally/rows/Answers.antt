@@ -11,11 +11,11 @@ sum-requires-clause-fits c =
     let s = c.args.self.now in
     let n = ap table_count c.graph.view_is in
     let o = sum-up_to s.good (omega (arith, c.graph.invariant.few-tables)) (length c.graph.inside.rows.now) (omega arith) in
-    fits_from_yields_list c.iter.result _ (YieldsList-from_slice (take (length c.graph.inside.rows.now) (drop 1 s.counts)) (c.iter.ensures.rest ∙ ap (λ (i : ℕ). take i (drop 1 s.counts)) (omega arith))) (omega (arith, o.0, o.1, c.graph.invariant.few-tables))
+    fits_from_yields_list c.iter.result _ (YieldsList-from_slice (take (length c.graph.inside.rows.now) (drop 1 s.counts.now)) (c.iter.ensures.rest ∙ ap (λ (i : ℕ). take i (drop 1 s.counts.now)) (omega arith))) (omega (arith, o.0, o.1, c.graph.invariant.few-tables))
 
 pub returns : goal.returns
 returns c =
     let s = c.args.self.now in
     let n = ap table_count c.graph.view_is in
     let o = sum-up_to s.good (omega (arith, c.graph.invariant.few-tables)) (length c.graph.inside.rows.now) (omega arith) in
-    sum_from_yields_List c.iter.result c.sum.result c.sum.ensures.ran (YieldsList-from_slice (take (length c.graph.inside.rows.now) (drop 1 s.counts)) (c.iter.ensures.rest ∙ ap (λ (i : ℕ). take i (drop 1 s.counts)) (omega arith))) ∙ o.0 ∙ ap length (up_to-end _ _ n)
+    sum_from_yields_List c.iter.result c.sum.result c.sum.ensures.ran (YieldsList-from_slice (take (length c.graph.inside.rows.now) (drop 1 s.counts.now)) (c.iter.ensures.rest ∙ ap (λ (i : ℕ). take i (drop 1 s.counts.now)) (omega arith))) ∙ o.0 ∙ ap length (up_to-end _ _ n)
