@@ -24,9 +24,6 @@ use Rattle.graph.specs.NearLaws.{both_of, both-in, in_right}
 use Rattle.parts.specs.Parts.{cell_of, Parts, by_parts, Divides, Valued}
 
 -- ---- cells
-pub cell-fits : (t u : ℕ) → 1 ≤ t → t ≤ max_tables → 1 ≤ u → u ≤ max_tables → cell_of t u < 256
-cell-fits t u a b c d = omega arith
-
 same-cell : (t u a b : ℕ) → (1 ≤ u) × (u ≤ max_tables) → (1 ≤ b) × (b ≤ max_tables) → 1 ≤ t → 1 ≤ a → cell_of t u ≡ cell_of a b → (t ≡ a) × (u ≡ b)
 same-cell t u a b p q r s e = (omega arith, omega arith)
 
