@@ -6,7 +6,7 @@ use mathlib.Core.List.{List, [], ◌∷◌, ◌++◌, map}
 use Rattle.std.proofs.Math.Decide.{dec_lt, ℕ_discrete}
 use Rattle.std.specs.Int.Bits.{bit_and}
 use Rattle.std.proofs.Math.ListN.{get_or-append}
-use Rattle.std.proofs.lemmas.List.{get_or_at}
+use Rattle.std.proofs.lemmas.List.{append_assoc, get_or_at}
 use Rattle.std.proofs.lemmas.List.Edits.{sets, sets-eq}
 use Rattle.rules.specs.Lists.{is_yes, in_row}
 use Rattle.rules.specs.Sets.{single}
@@ -32,10 +32,6 @@ use Rattle.rows.specs.FoundLaws.{found-step, found_first, count-here, tallied-no
 use Rattle.rows.specs.TallyLaws.{nothing, root}
 
 -- ---- places
-append_assoc : (a b c : List ℕ) → (a ++ b) ++ c ≡ a ++ (b ++ c)
-append_assoc [] b c = refl
-append_assoc (x ∷ a) b c = ap (λ (l : List ℕ). x ∷ l) (append_assoc a b c)
-
 module _ (M : List ℕ) (a : ℕ) (xs ys : List ℕ) (h : Ahead M a (xs ++ ys)) where
   ahead-left : Ahead M a xs
   ahead-left = record { front = h.front; behind = ys ++ h.behind; whole = ap (λ (l : List ℕ). h.front ++ l) (sym (append_assoc xs ys h.behind)) ∙ h.whole; place = h.place }

@@ -30,6 +30,8 @@ fn put(row: bool, s: u64, e: u64, out: &mut [u64], estimates: &mut [u64], at: us
 }
 
 // Writes, each at its size's place, the connected sets that add some of the tables from `t` on to the chosen ones, whose estimate is `e`; moves the places on.
+// It is a walk beside that of rows' `tally_from`: it carries an estimate down, and a walk for both would be a trait whose laws restate both proofs.
+// The three lists stay slices: a struct of them would need clauses that they are the same lists, as long as before.
 fn fill_from(
     near: &Neighbours,
     parts: &[u64; 256],

@@ -8,16 +8,17 @@ use Rattle.rules.specs.Lists.{is_yes}
 use Rattle.rules.specs.Sets.{holds, Splits, single, Disjoint}
 use Rattle.rules.specs.Query.{Graph, table_count, at, IsTable, Linked, Between}
 use Rattle.rules.specs.Connected.{Connected}
-use Rattle.rules.specs.laws.Bools.{true-or-false, not-both, yes_true, true-yes}
+use Rattle.rules.specs.laws.Bools.{true-or-false, yes_true, true-yes}
 use Rattle.rules.specs.laws.Sets.{holds-pos, holds-lt, holds-sum, holds-apart, holds-single, holds-single-only}
 use Rattle.rules.specs.laws.Connected.{within_same, connected-join, connected-single, connected-between}
 use Rattle.rules.specs.laws.Decide.{connected?}
+use Rattle.query.specs.ConnectedLaws.{no-yes}
 use Rattle.graph.specs.Walk.{walk, onward}
 use Rattle.graph.specs.Near.{Told}
 use Rattle.graph.specs.Node.{taking, Node, Grows, Stuck}
 use Rattle.graph.specs.declared.chosen.Chosen.{Chosen}
 use Rattle.graph.specs.ApartLaws.{apart-tables, onward-holds, walk-without, walk-apart, below-with, below-without}
-use Rattle.graph.specs.NearLaws.{in_left, in_right, shared, no-yes, either-of, either_left, either-right}
+use Rattle.graph.specs.NearLaws.{in_left, in_right, shared, either-of, either_left, either-right}
 
 -- ---- a node's sets
 module _ {g : Graph} {near : List ℕ} {n t : ℕ} {chosen : Chosen} (d : Node g near n t chosen) where
@@ -126,9 +127,6 @@ module _ (near : List ℕ) (chosen : Chosen) (x : ℕ) where
 
   pub grows-asked : (r : Bool) → Told near (chosen.set + x) (chosen.set + x) r → Grows near chosen x r
   grows-asked r h = record { told = λ g n t d l e. asked-grows d x l e r h }
-
-  pub stuck-not : Stuck near chosen x false
-  stuck-not = record { none = λ e. absurd (not-both false e refl) }
 
   pub stuck-closed : (chosen.set ≡ 0 → ⊥) → Disjoint chosen.around x → Stuck near chosen x true
   stuck-closed z a = record { none = λ i g n t d e. closed_none d x e z a }

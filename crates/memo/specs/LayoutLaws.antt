@@ -1,5 +1,5 @@
 -- Laws of laying out: the rows of one size in a list of all rows, their skip cells after those of the smaller sizes, the columns, the one outcome.
-use Rattle.std.specs.Prelude.{◌≡◌, refl, List, [], ◌++◌, ◌∷◌, ℕ, ◌+◌, ◌-◌, ◌*◌, ◌≤◌, ◌<◌, take, drop, replicate, Result, Ok, Err}
+use Rattle.std.specs.Prelude.{◌≡◌, refl, List, [], ◌++◌, ◌∷◌, ℕ, ◌+◌, ◌-◌, ◌*◌, ◌≤◌, ◌<◌, take, drop, replicate, Result, Err}
 use Rattle.std.proofs.Common.{sym, ◌∙◌, zero-add, arith, lt-ltb, le-ltb, length-take, take-take, take_at, drop_at}
 use Rattle.std.proofs.Math.Path.{ap}
 use Rattle.std.proofs.Math.Decide.{dec_lt}
@@ -26,7 +26,7 @@ use Rattle.starts.specs.CountLaws.{cells-size, cells_count}
 use Rattle.skips.specs.VectorLaws.{vectors-of}
 use Rattle.memo.specs.declared.layout.Laid.{Laid}
 use Rattle.rules.specs.declared.refusal.Refusal.{Refusal}
-use Rattle.memo.specs.Layout.{Lent, lent, lent_of, Room, laid, refusal_of, few_rows, few_cells, counts, LaidOut, OneLength}
+use Rattle.memo.specs.Layout.{Lent, lent, lent_of, Room, refusal_of, few_rows, LaidOut, OneLength}
 
 -- ---- lists in a row
 row-whole : {C : Type 0} (f : ℕ → List C) (k n : ℕ) → k ≤ n → in_row f 1 n ≡ in_row f 1 k ++ in_row f (1 + k) (n - k)
@@ -127,29 +127,13 @@ zeros-laid g old e l z =
     let part : length (take (length (memo g)) old) ≡ length (memo g) = omega (arith, length-take (length (memo g)) old) in
     rw (z, e, part) (sym (written_over (replicate (length (memo g)) none) old (omega (arith, long)) ∙ (rw long)))
 
--- a column as long as another that has room
-pub has_room : {n m a b : ℕ} → n ≡ m → m ≤ a → b ≡ a → n ≤ b
-has_room e h f = omega arith
-
 pub lent_same : {s e c o m k s' e' c' o' m' k' : List ℕ} → s ≡ s' → e ≡ e' → c ≡ c' → o ≡ o' → m ≡ m' → k ≡ k' → lent s e c o m k ≡ lent s' e' c' o' m' k'
 lent_same a b c d e f = rw (a, b, c, d, e, f)
 
 -- ---- the three cases
-pub counted : (g : Graph) (n m : ℕ) → n ≡ length (memo g) → m ≡ length (skips g) → {r : Result Laid Refusal} → r ≡ Ok (record { rows = n; cells = m }) → r ≡ Ok (counts g)
-counted g n m e f q = q ∙ rw (e, f)
-
 module _ (g : Graph) (old : Lent) where
   pub too-few-rows : {r : Result Laid Refusal} {n : ℕ} → n ≡ length (memo g) → length old.sets < n → r ≡ Err few_rows → LaidOut g old old r
   too-few-rows e h q = record { refused13 = λ a. (q, refl); refused14 = λ a b. absurd (omega arith); given = λ a. absurd (omega arith) }
-
-  pub too-few-cells : {r : Result Laid Refusal} {n m : ℕ} → n ≡ length (memo g) → n ≤ length old.sets → m ≡ length (skips g) → length old.skips < m → r ≡ Err few_cells → LaidOut g old old r
-  too-few-cells e h f k q = record { refused13 = λ a. absurd (omega arith); refused14 = λ a b. (q, refl); given = λ a. absurd (omega arith) }
-
-  pub room_for : {n m : ℕ} → n ≡ length (memo g) → n ≤ length old.sets → m ≡ length (skips g) → m ≤ length old.skips → Room g old
-  room_for e h f k = record { rows = omega arith; cells = omega arith }
-
-  pub enough : {new : Lent} {r : Result Laid Refusal} → Room g old → r ≡ Ok (counts g) → new ≡ laid g old → LaidOut g old new r
-  enough h q w = record { refused13 = λ a. absurd (omega arith); refused14 = λ a b. absurd (omega arith); given = λ a. (q, w) }
 
   -- ONE OUTCOME for what was lent
   pub laid-unique : {new new' : Lent} {r r' : Result Laid Refusal} → LaidOut g old new r → LaidOut g old new' r' → (r ≡ r') × (new ≡ new')

@@ -1,7 +1,7 @@
 -- Laws of the tables' parts: storing them, dividing by them, and an estimate carried on by one table.
 use Rattle.std.specs.Prelude.{◌≡◌, true, false, List, ◌⊎◌, eqb, length, get_or, set}
 use Rattle.std.proofs.Math.Path.{refl, sym, ap}
-use Rattle.std.proofs.Common.{◌∙◌, inl, inr, mul-le-mul, arith, length-set, pow_mono, get_or-set_same, get_or-set_other}
+use Rattle.std.proofs.Common.{◌∙◌, inl, inr, arith, length-set, get_or-set_same, get_or-set_other}
 use Rattle.std.proofs.Math.Bool.{cond}
 use Prim.Native.Nat.{ℕ, zero, suc, ◌+◌, ◌-◌, ◌*◌, ◌^◌, ◌≤◌, ◌<◌, ◌/◌, min, max}
 use Rattle.std.proofs.Math.Decide.{ℕ_discrete}
@@ -13,49 +13,22 @@ use Rattle.rules.specs.Query.{Graph, table_count, edge_count, at, IsTable, Joins
 use Rattle.rules.specs.Checked.{GoodGraph}
 use Rattle.rules.specs.Estimate.{joins_at, divided, by_edges, by_lower, with_table, running, estimate}
 use Rattle.rules.specs.laws.Bools.{true-or-false}
-use Rattle.rules.specs.laws.Sets.{bit_le, holds-bit, holds-none, holds-pos, holds-lt, lt-of-holds, holds-sum, holds-single, holds-single-only, holds-out, holds-minus, union-of}
+use Rattle.rules.specs.laws.Sets.{holds-pos, holds-lt, lt-of-holds, holds-sum, holds-single, holds-single-only, holds-out, holds-minus, union-of}
 use Rattle.rules.specs.laws.Refusals.{joins_true, true-joins}
 use Rattle.rules.proofs.laws.Estimate.{running-le}
 use Rattle.graph.specs.declared.chosen.Chosen.{Chosen}
+use Rattle.query.specs.EdgeLaws.{holds-le}
 use Rattle.graph.specs.Node.{Node}
 use Rattle.graph.specs.ApartLaws.{apart-tables, below-with}
 use Rattle.graph.specs.NearLaws.{both_of, both-in, in_right}
-use Rattle.parts.specs.Parts.{cell_of, Own, Parts, by_parts, Divides, Valued}
+use Rattle.parts.specs.Parts.{cell_of, Parts, by_parts, Divides, Valued}
 
 -- ---- cells
-pub cell-fits : (t u : ℕ) → 1 ≤ t → t ≤ max_tables → 1 ≤ u → u ≤ max_tables → cell_of t u < 256
-cell-fits t u a b c d = omega arith
-
 same-cell : (t u a b : ℕ) → (1 ≤ u) × (u ≤ max_tables) → (1 ≤ b) × (b ≤ max_tables) → 1 ≤ t → 1 ≤ a → cell_of t u ≡ cell_of a b → (t ≡ a) × (u ≡ b)
 same-cell t u a b p q r s e = (omega arith, omega arith)
 
 -- ---- storing
-module _ (rows parts : List ℕ) where
-  pub own-end : {n m : ℕ} → n ≡ m → Own rows n parts → Own rows m parts
-  own-end e h = rw e at h
-
-  pub own-none : Own rows 0 parts
-  own-none = record { rows_of = λ t a b. absurd (omega arith) }
-
-  -- the rows of table k + 1
-  pub own-more : (k : ℕ) {v : ℕ} → k < max_tables → length parts ≡ 256 → v ≡ max (get_or rows k 0) 1 → Own rows k parts → Own rows (k + 1) (set parts (k * 16 + k) v)
-  own-more k {v} l n e o = record { rows_of = λ t a b. go t a b (ℕ_discrete t (k + 1)) }
-    where
-      go : (t : ℕ) → 1 ≤ t → t ≤ k + 1 → Dec (t ≡ k + 1) → get_or (set parts (k * 16 + k) v) (cell_of t t) 0 ≡ max 1 (at rows t)
-      go t a b (yes z) =
-          let c : k * 16 + k ≡ cell_of t t = omega arith in
-          let d : k ≡ t - 1 = omega arith in
-          let f : v ≡ max 1 (get_or rows k 0) = omega arith in
-          rw (← c) (get_or-set_same parts (k * 16 + k) v 0 (omega arith)) ∙ f ∙ ap (λ (i : ℕ). max 1 (get_or rows i 0)) d
-      go t a b (no z) = get_or-set_other parts (k * 16 + k) (cell_of t t) v 0 (λ c. omega arith) ∙ o.rows_of t a (omega arith)
-
 module _ (g : Graph) where
-  pub parts_none : {parts : List ℕ} → Own g.rows (table_count g) parts → Parts g 0 parts
-  parts_none o = record { own = o; divisors = λ t u i l. absurd (omega arith) }
-
-  pub parts-end : {n : ℕ} {parts : List ℕ} → n ≡ edge_count g → Parts g n parts → Parts g (edge_count g) parts
-  parts-end e h = rw e at h
-
   -- the tables of an edge
   pub ends-fit : (j t u : ℕ) → GoodGraph g → j < edge_count g → Joins g j t u → (1 ≤ t) × (t ≤ max_tables) × (1 ≤ u) × (u ≤ max_tables)
   ends-fit j t u good k (inl e) =
@@ -148,10 +121,6 @@ module _ (g : Graph) (u t r : ℕ) where
       go (no e) ih = rw (joins-not n (λ p. (good.edges n (omega arith)).new i (omega arith) (both-join n i p o))) (ih (omega arith))
 
 -- ---- tables of a set
-holds-le : (S u : ℕ) → holds S u ≤ 1
-holds-le S zero = omega (arith, holds-none S)
-holds-le S (suc i) = omega (arith, holds-bit S i, bit_le i S)
-
 not-held : (S u : ℕ) → (holds S u ≡ 1 → ⊥) → holds S u ≡ 0
 not-held S u h = go (ℕ_discrete (holds S u) 1)
   where
@@ -215,17 +184,8 @@ module _ (parts : List ℕ) (t : ℕ) where
   pub lowest-fits : (S u : ℕ) → Lowest S u → Divides parts t S → (1 ≤ u) × (u ≤ max_tables)
   lowest-fits S u w d = let o = holds-lt (t - 1) S u d.below w.stands in (o.0, omega (arith, o.1, d.few))
 
-  pub divisor-at : (S u c : ℕ) → Lowest S u → Divides parts t S → c ≡ cell_of t u → 1 ≤ get_or parts c 0
-  divisor-at S u c w d e = rw e (d.divisor u w.stands)
-
-  pub divides-fits : {S : ℕ} → Divides parts t S → S < 65536
-  divides-fits d = omega (arith, d.below, d.few, pow_mono {i = t - 1} {j = 16} (omega (arith, d.few)))
-
   -- the product fits, and the cut: c is the cell of t
   module _ (S e c : ℕ) (ec : c ≡ cell_of t t) where
-    pub product-fits : e ≤ max_estimate → get_or parts (cell_of t t) 0 ≤ max_rows → e * get_or parts c 0 ≤ max_estimate * max_rows
-    product-fits h l = rw ec (mul-le-mul h l)
-
     pub cut-is : {r v : ℕ} → r ≡ by_parts parts S t (t - 1) (e * get_or parts c 0) → v ≡ min r max_estimate → v ≡ min max_estimate (by_parts parts S t (t - 1) (e * get_or parts (cell_of t t) 0))
     cut-is {r} h w = let i : r ≡ by_parts parts S t (t - 1) (e * get_or parts (cell_of t t) 0) = rw ec at h in omega arith
 

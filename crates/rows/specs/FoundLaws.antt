@@ -75,10 +75,6 @@ pub one-more : (row : Bool) (n : ℕ) {b : ℕ} → b ≡ bool_byte row → n + 
 one-more true n e = omega arith
 one-more false n e = omega arith
 
-pub one-at-most : (row : Bool) → bool_byte row ≤ 1
-one-at-most true = omega arith
-one-at-most false = omega arith
-
 -- the count of one size goes up where there is a row
 pub count-here : (row : Bool) (with z : ℕ) (l : List ℕ) {v : ℕ} → z + 1 < length l → v ≡ cond row (get_or l (z + 1) 0 + 1) (get_or l (z + 1) 0) → (s : ℕ) → get_or (set l (z + 1) v) s 0 ≡ get_or l s 0 + length (here row with z s)
 unfolding here

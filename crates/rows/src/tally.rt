@@ -28,11 +28,7 @@ impl Tally<'_> {
         ensures { result ≡ length (memo self.now.graph.now) }
     {
         let graph = self.graph;
-        let mut sum = 0usize;
-        for k in 0..graph.rows.len() {
-            sum += self.counts[k + 1];
-        }
-        sum
+        self.counts[1..=graph.rows.len()].iter().sum()
     }
 
     // How many cells the skip vectors have: one for each table of each row.

@@ -1,8 +1,6 @@
-use mathlib.Core.Path.{◌∙◌}
 use Prim.Native.Nat.{◌+◌, ◌-◌}
 use native.Mathlib.Omega.{arith}
-use lib.ListN.{length-set}
-use Rattle.graph.specs.ApartLaws.{all-fits, rest-is, rest_some, rest-apart, rest-fits, with-fits}
+use Rattle.graph.specs.ApartLaws.{all-fits, rest-is, rest_some, rest-apart, rest-fits}
 use Rattle.parts.specs.PartLaws.{linked-divides, value-fits}
 use Rattle.rows.specs.FoundLaws.{found_none, found-last}
 use Rattle.fill.specs.FillLaws.{filled_none, fits-row, filling-with, filling-without, filled-step}
@@ -11,18 +9,6 @@ use Rattle.fill.proofs.+fill_from.Goals as goal
 pub returns-then-t-near : goal.returns-then-t-near
 returns-then-t-near t c =
     λ g d. filled_none _ _ _ (found-last g c.args.near.now.tables c.args.chosen.size c.args.t c.args.chosen.set c.if-t-near.true)
-
-pub single-bit-requires : goal.single-bit-requires
-single-bit-requires t c =
-    omega (arith, c.requires.1.node.some, c.requires.1.node.few, c.if-t-near.false)
-
-pub overflow_add-near : goal.overflow_add-near
-overflow_add-near t c =
-    omega (arith, c.requires.1.node.some, c.requires.1.node.few, c.if-t-near.false)
-
-pub single-requires : goal.single-requires
-single-requires t c =
-    omega (arith, c.requires.1.node.some, c.requires.1.node.few, c.if-t-near.false)
 
 pub overflow_sub-rest : goal.overflow_sub-rest
 overflow_sub-rest t c =
@@ -37,57 +23,13 @@ pub returns-then-stuck : goal.returns-then-stuck
 returns-then-stuck t c =
     λ g d. filled_none _ _ _ (found_none g c.args.chosen.size c.args.t (c.args.near.now.tables + 1 - c.args.t) c.args.chosen.set (c.stuck.ensures.none c.if-stuck.true g c.args.near.now.tables c.args.t d.node (rest-is c.requires.0 c.args.near.now.tables c.args.t c.args.chosen.set c.requires.1.node.some c.requires.1.node.last c.requires.1.node.below c.single.result c.single-bit.result c.single.ensures c.single-bit.ensures)))
 
-pub grows-row-requires : goal.grows-row-requires
-grows-row-requires t c =
-    omega (arith, c.single-bit.ensures, with-fits c.args.t c.args.chosen.set c.requires.1.node.some c.requires.1.node.below (omega (arith, c.requires.1.node.few, c.if-t-near.false)))
-
-pub overflow_add-with : goal.overflow_add-with
-overflow_add-with t c =
-    omega (arith, c.single-bit.ensures, with-fits c.args.t c.args.chosen.set c.requires.1.node.some c.requires.1.node.below (omega (arith, c.requires.1.node.few, c.if-t-near.false)))
-
-pub overflow_sub-beside : goal.overflow_sub-beside
-overflow_sub-beside t c =
-    omega (arith, c.requires.1.node.some, c.requires.1.node.few, c.if-t-near.false)
-
-pub offset_bounds-near-t : goal.offset_bounds-near-t
-offset_bounds-near-t t c =
-    omega (arith, c.requires.1.node.some, c.requires.1.node.few, c.if-t-near.false)
-
-pub bounds-near-t : goal.bounds-near-t
-bounds-near-t t c =
-    omega (arith, c.requires.1.node.some, c.requires.1.node.few, c.if-t-near.false)
-
 pub with_part-more-requires : goal.with_part-more-requires
 with_part-more-requires t c = record { divides = linked-divides c.requires.1.node c.requires.1.valued c.if-t-near.false; limits = value-fits c.requires.1.node c.requires.1.valued c.if-t-near.false }
-
-pub overflow_add-t : goal.overflow_add-t
-overflow_add-t t c =
-    omega (arith, c.requires.1.node.some, c.requires.1.node.few, c.if-t-near.false)
-
-pub overflow_add-with-2 : goal.overflow_add-with-2
-overflow_add-with-2 t c =
-    omega (arith, c.requires.1.smaller, c.requires.1.long, c.requires.1.node.few, c.if-t-near.false)
-
-pub offset_bounds-starts-with : goal.offset_bounds-starts-with
-offset_bounds-starts-with t c =
-    omega (arith, c.requires.1.smaller, c.requires.1.long, c.requires.1.node.few, c.if-t-near.false)
-
-pub bounds-starts-with : goal.bounds-starts-with
-bounds-starts-with t c =
-    omega (arith, c.requires.1.smaller, c.requires.1.long, c.requires.1.node.few, c.if-t-near.false)
 
 pub put-requires : goal.put-requires
 put-requires t c =
     let single' = c.single-bit in
     fits-row c.requires.1 single'.result c.grows-row.result c.if-t-near.false single'.ensures (c.grows-row.ensures.told c.requires.0 c.args.near.now.tables c.args.t c.requires.1.node c.if-t-near.false single'.ensures)
-
-pub offset_bounds-starts-with-2 : goal.offset_bounds-starts-with-2
-offset_bounds-starts-with-2 t c =
-    omega (arith, c.requires.1.smaller, c.requires.1.long, c.requires.1.node.few, c.if-t-near.false)
-
-pub bounds-starts-with-2 : goal.bounds-starts-with-2
-bounds-starts-with-2 t c =
-    omega (arith, c.requires.1.smaller, c.requires.1.long, c.requires.1.node.few, c.if-t-near.false)
 
 pub fill_from-requires : goal.fill_from-requires
 fill_from-requires t c =
@@ -104,16 +46,6 @@ fill_from-requires-2 t c =
     let put' = c.put in
     let fill-from' = c.fill_from in
     (omega (arith, if1'.false), (c.requires.0, filling-without c.requires.1 single'.result grows'.result if1'.false single'.ensures (grows'.ensures.told c.requires.0 c.args.near.now.tables c.args.t c.requires.1.node if1'.false single'.ensures) put'.ensures.next c.with_part-more.ensures put'.auto.out put'.auto.estimates (fill-from'.ensures c.requires.0 (filling-with c.requires.1 single'.result grows'.result if1'.false single'.ensures (grows'.ensures.told c.requires.0 c.args.near.now.tables c.args.t c.requires.1.node if1'.false single'.ensures) put'.ensures.next c.with_part-more.ensures put'.auto.out put'.auto.estimates)) fill-from'.auto.starts fill-from'.auto.out fill-from'.auto.estimates))
-
-pub shape_of-starts : goal.shape_of-starts
-shape_of-starts t c =
-    c.fill_from-2.auto.starts ∙ c.fill_from.auto.starts ∙ length-set c.args.starts.now (c.args.chosen.size + 1) c.put.result
-
-pub shape_of-out : goal.shape_of-out
-shape_of-out t c = c.fill_from-2.auto.out ∙ c.fill_from.auto.out ∙ c.put.auto.out
-
-pub shape_of-estimates : goal.shape_of-estimates
-shape_of-estimates t c = c.fill_from-2.auto.estimates ∙ c.fill_from.auto.estimates ∙ c.put.auto.estimates
 
 pub returns : goal.returns
 returns t c =

@@ -28,9 +28,6 @@ loop-k-preserved c =
     let counted = t.good.sizes l.k (omega arith) in
     (length-set l.starts (l.k + 1) l.at ∙ l.invariant.0, omega (arith, rows_fit g (l.k + 1) (omega arith)), omega (arith, length_more g l.k), starts_more g l.starts l.k (omega arith) l.invariant.2 l.invariant.3)
 
-pub slice_bounds-fill_from-end : goal.slice_bounds-fill_from-end
-slice_bounds-fill_from-end c = sym c.loop-k.invariant.0
-
 pub fill_from-requires : goal.fill_from-requires
 fill_from-requires c =
     let l = c.loop-k in

@@ -1,1 +1,0 @@
-use Rattle.graph.proofs.near.Neighbours.new.Goals as goal
