@@ -57,6 +57,7 @@ impl<'a> Search<'a> {
         let mut low = self.begin(last);
         let mut high = low;
         let mut stride = 1;
+        // No `for`: the steps double.
         while high < self.to {
             if self.sets[high] == self.set {
                 return high;
