@@ -9,11 +9,10 @@ use borrow.Author.Tests.{eq-eqb, ne_eqb}
 use Rattle.rules.specs.declared.forms.Kind.{Kind}
 use Rattle.rules.specs.declared.forms.Kind.TheVariants.{Table, Method, Edge, Crew}
 use Rattle.rules.specs.declared.forms.Form.{Form}
-use Rattle.rules.specs.declared.forms.Letter.{Letter}
-use Rattle.rules.specs.declared.forms.Letter.TheVariants.{Known, Unknown}
 use Rattle.rules.specs.Limits.{max_tables, max_methods, max_edge_lines}
 use Rattle.rules.specs.Lines.{fields}
 use Rattle.rules.specs.Reading.{known, letter_of, form_of, stage, all_numbers, number_fields, values, misplaced, excess, line_number_as}
+use Rattle.std.specs.Prelude.{None, Option, Some}
 
 -- ---- letters
 pub letter-table : (b : ℕ) → b ≡ 84 → known Table 3 ≡ letter_of b
@@ -32,20 +31,20 @@ pub letter-crew : (b : ℕ) → b ≡ 87 → known Crew 2 ≡ letter_of b
 unfolding letter_of
 letter-crew b e = rw e
 
-pub letter-none : (b : ℕ) → (b ≡ 84 → ⊥) → (b ≡ 77 → ⊥) → (b ≡ 69 → ⊥) → (b ≡ 87 → ⊥) → Unknown ≡ letter_of b
+pub letter-none : (b : ℕ) → (b ≡ 84 → ⊥) → (b ≡ 77 → ⊥) → (b ≡ 69 → ⊥) → (b ≡ 87 → ⊥) → None ≡ letter_of b
 unfolding letter_of
 letter-none b t m e w = rw (ne_eqb b 84 t, ne_eqb b 77 m, ne_eqb b 69 e, ne_eqb b 87 w)
 
 -- no letter has more than four numbers
-abbrev pub numbers_of : Letter → ℕ
-numbers_of (Known f) = f.numbers
-numbers_of Unknown = 0
+abbrev pub numbers_of : Option Form → ℕ
+numbers_of (Some f) = f.numbers
+numbers_of None = 0
 
 pub letter-few : (b : ℕ) → numbers_of (letter_of b) ≤ 4
 unfolding letter_of
 letter-few b = go (eqb b 84) (eqb b 77) (eqb b 69) (eqb b 87)
   where
-    go : (t m e w : Bool) → numbers_of (cond t (known Table 3) (cond m (known Method 4) (cond e (known Edge 3) (cond w (known Crew 2) Unknown)))) ≤ 4
+    go : (t m e w : Bool) → numbers_of (cond t (known Table 3) (cond m (known Method 4) (cond e (known Edge 3) (cond w (known Crew 2) None)))) ≤ 4
     go true m e w = omega arith
     go false true e w = omega arith
     go false false true w = omega arith
@@ -53,7 +52,7 @@ letter-few b = go (eqb b 84) (eqb b 77) (eqb b 69) (eqb b 87)
     go false false false false = omega arith
 
 -- ---- the first field
-pub form-other : (s : List ℕ) → (length s ≡ 1 → ⊥) → Unknown ≡ form_of s
+pub form-other : (s : List ℕ) → (length s ≡ 1 → ⊥) → None ≡ form_of s
 form-other [] n = refl
 form-other (b ∷ []) n = absurd (n refl)
 form-other (b ∷ c ∷ s) n = refl
@@ -68,7 +67,7 @@ form-few [] = omega arith
 form-few (b ∷ []) = letter-few b
 form-few (b ∷ c ∷ s) = omega arith
 
-pub known-few : (s : List ℕ) (l : Letter) (f : Form) → l ≡ form_of s → l ≡ Known f → f.numbers ≤ 4
+pub known-few : (s : List ℕ) (l : Option Form) (f : Form) → l ≡ form_of s → l ≡ Some f → f.numbers ≤ 4
 known-few s l f p q = let e : numbers_of (form_of s) ≡ f.numbers = ap numbers_of (sym p ∙ q) in omega (arith, form-few s)
 
 -- ---- 23
@@ -112,13 +111,13 @@ module _ (kind : Kind) (tables methods edges : ℕ) where
   crew-excess k = rw k
 
 -- ---- the first that applies of 21, 22, 23 and 25
-pub line-unknown : (l : Letter) (latest tables methods edges : ℕ) (line : List ℕ) → l ≡ Unknown → 21 ≡ line_number_as l latest tables methods edges line
+pub line-unknown : (l : Option Form) (latest tables methods edges : ℕ) (line : List ℕ) → l ≡ None → 21 ≡ line_number_as l latest tables methods edges line
 unfolding line_number_as
 line-unknown l latest tables methods edges line e = rw e
 
 module _ (f : Form) (latest tables methods edges : ℕ) (line : List ℕ) where
   abbrev told : ℕ
-  told = line_number_as (Known f) latest tables methods edges line
+  told = line_number_as (Some f) latest tables methods edges line
 
   pub wrong-count : (length (fields line) ≡ f.numbers + 1 → ⊥) → 21 ≡ told
   unfolding line_number_as

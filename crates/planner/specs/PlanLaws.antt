@@ -8,8 +8,7 @@ use Rattle.std.specs.Int.Count.{ones_step}
 use Rattle.std.proofs.Math.ListN.{length-replicate}
 use Rattle.std.specs.Int.{w64}
 use Rattle.rules.specs.declared.Crew.{Crew}
-use Rattle.rules.specs.declared.NewCrew.TheVariants.{Good, Refused as NoCrew}
-use Rattle.rules.specs.declared.Verdict.{Verdict}
+use Rattle.rules.specs.Verdict.{Verdict}
 use Rattle.rules.specs.Kinds.{new_crew}
 use Rattle.rules.specs.Sets.{size, full}
 use Rattle.rules.specs.Query.{Graph, table_count}
@@ -39,6 +38,7 @@ use Rattle.crew.specs.Logs.{log_of, LogFits}
 use Rattle.runs.specs.Runs.{SearchReady, SearchDone}
 use Rattle.runs.specs.SearchLaws.{spared-written, spared-on, laid-length}
 use Rattle.planner.specs.Plans.{answer_of, outcome_of, refused_with}
+use Rattle.std.specs.Prelude.{None, Some}
 
 -- ---- refusals
 first-append : (a b : List Verdict) → first_of (a ++ b) ≡ cond (eqb (first_of a).number 0) (first_of b) (first_of a)
@@ -76,7 +76,7 @@ pub planned-refused : (i : Input) {a : Answer} {left : Memory} {v : Verdict} →
 planned-refused i e n r l = record { given = λ z. absurd (n (ap (λ (x : Verdict). x.number) e ∙ z)); refused = λ _. record { answer = r ∙ ap refusal e; lent = l } }
 
 -- numbers that have a crew are not refused one
-pub no-crew : (workers scheme : ℕ) → new_crew workers scheme ≡ NoCrew → (c : Crew) × (new_crew workers scheme ≡ Good c) → ⊥
+pub no-crew : (workers scheme : ℕ) → new_crew workers scheme ≡ None → (c : Crew) × (new_crew workers scheme ≡ Some c) → ⊥
 no-crew workers scheme e k = let z : ◌≡◌ {A = ℕ} 0 1 = cc (e, k.1) in omega arith
 
 -- the checks of an input, as `check` says them
@@ -207,7 +207,7 @@ module _ (i : Input) (e : (first_of (checks i)).number ≡ 0) {new : Lent} {r : 
   zeros-fit = let z : ℕ = 0 in omega (arith, length-replicate (length (memo i.query.graph)) z)
 
   -- the crew is one
-  pub crew-known : (c : Crew) × (new_crew i.workers i.scheme ≡ Good c)
+  pub crew-known : (c : Crew) × (new_crew i.workers i.scheme ≡ Some c)
   crew-known = (_, crew-named good.crew)
 
   -- the log has its lengths
@@ -215,7 +215,7 @@ module _ (i : Input) (e : (first_of (checks i)).number ≡ 0) {new : Lent} {r : 
   log-fits = record { driving = good.columns.driving; inner = good.columns.inner; costs = good.columns.log-costs }
 
   -- the search may begin
-  pub search-ready : {crew : Crew} → new_crew i.workers i.scheme ≡ Good crew → SearchReady i.query crew i.turns new.sets new.estimates new.skips (columns new.costs new.outers new.methods) (log_of i.lent.log_workers i.lent.log_driving i.lent.log_inner i.lent.log_costs)
+  pub search-ready : {crew : Crew} → new_crew i.workers i.scheme ≡ Some crew → SearchReady i.query crew i.turns new.sets new.estimates new.skips (columns new.costs new.outers new.methods) (log_of i.lent.log_workers i.lent.log_driving i.lent.log_inner i.lent.log_costs)
   search-ready {crew} named = record {
     sound = good.sound;
     some-worker = omega (arith, workers, good.crew.some-worker);
@@ -253,7 +253,7 @@ module _ (i : Input) (e : (first_of (checks i)).number ≡ 0) {new : Lent} {r : 
   rows_fit = omega (arith, rows_are, room.rows, good.columns.costs, (laid-lengths z).costs)
 
   -- its end is a plan
-  module _ {crew : Crew} (named : new_crew i.workers i.scheme ≡ Good crew) (a : Answer) (left : Memory)
+  module _ {crew : Crew} (named : new_crew i.workers i.scheme ≡ Some crew) (a : Answer) (left : Memory)
       (d : SearchDone i.query crew (schedule_of i) i.turns (columns new.costs new.outers new.methods) (columns left.costs left.outers left.methods)
       (log_of i.lent.log_workers i.lent.log_driving i.lent.log_inner i.lent.log_costs) (log_of left.log_workers left.log_driving left.log_inner left.log_costs) a.pairs a.counts)
       (same-sets : left.sets ≡ new.sets) (same-estimates : left.estimates ≡ new.estimates) (same-cells : left.skips ≡ new.skips)

@@ -5,3 +5,4 @@
 pub mod connected;
 pub mod edges;
 pub mod graph;
+pub mod lists;

@@ -5,7 +5,6 @@ use Rattle.std.proofs.Common.{◌∙◌, le_trans, add-one, arith, length-take-l
 use Rattle.std.proofs.Math.Bool.{true, false}
 use Rattle.rules.specs.declared.forms.Kind.{Kind}
 use Rattle.rules.specs.declared.forms.Kind.TheVariants.{Table, Method, Edge, Crew}
-use Rattle.rules.specs.declared.forms.Letter.{Letter}
 use Rattle.rules.specs.Limits.{max_bytes}
 use Rattle.rules.specs.Lines.{newline, lines}
 use Rattle.rules.specs.Reading.{Read, Reading, stage, values, line_form, line_number, with_record, with_line_as, with_line, stopped, ended, read_from, unfit, reading}
@@ -18,6 +17,8 @@ use Rattle.reader.specs.Columns.{Columns, read_in, RoomIn, SpareIn}
 use Rattle.reader.specs.ReadLaws.{Ended, fit_is, line-ends, lines_none, lines_next, after-length, after-ended}
 use Rattle.fields.specs.JudgeLaws.{number_as}
 use Rattle.reader.specs.StoreLaws.{Stored, spared-same, spared-on}
+use Rattle.std.specs.Prelude.{Option}
+use Rattle.rules.specs.declared.forms.Form.{Form}
 
 -- ---- one line
 step-stop : (k : ℕ) (s : Read) (l : List ℕ) (ls : List (List ℕ)) (n : ℕ) → line_number s l ≡ n → (n ≡ 0 → ⊥) → read_from k s (l ∷ ls) ≡ stopped n k s
@@ -41,7 +42,7 @@ same-record Edge a b s h = rw (h 0, h 1, h 2) refl
 same-record Crew a b s h = rw (h 0, h 1) refl
 
 with-line : {line cells : List ℕ} {kind : Kind} (s : Read) → Recorded line kind cells → with_line s line ≡ with_record kind cells s
-with-line {line} {cells} {kind} s r = ap (λ (x : Letter). with_line_as x line s) r.form ∙ sym (same-record kind cells (values line) s r.cells_are)
+with-line {line} {cells} {kind} s r = ap (λ (x : Option Form). with_line_as x line s) r.form ∙ sym (same-record kind cells (values line) s r.cells_are)
 
 -- ---- nine columns
 room-kept : (p : Progress) (a b : Columns) → RoomIn a → SpareIn p a b → RoomIn b

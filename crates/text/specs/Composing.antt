@@ -1,6 +1,6 @@
 -- What stands between a text and the lent buffer: an answer's bytes at the start of a buffer of the entry's own.
 use Rattle.std.specs.Prelude.{◌≡◌, List, ℕ, ◌≤◌, length}
-use Rattle.rules.specs.declared.Verdict.{Verdict}
+use Rattle.rules.specs.Verdict.{Verdict}
 use Rattle.rules.specs.Limits.{text_rows, answer_room}
 use Rattle.rules.specs.Query.{table_count}
 use Rattle.rules.specs.Refusals.{Input}

@@ -1,7 +1,7 @@
 -- The lines of an answer as runs of bytes, one for each field.
 use Rattle.std.specs.Prelude.{◌≡◌, refl, List, [], ◌∷◌, ◌++◌, ℕ}
 use Rattle.std.proofs.Common.{sym, ap, ◌∙◌, append_assoc}
-use Rattle.rules.specs.declared.Verdict.{Verdict}
+use Rattle.rules.specs.Verdict.{Verdict}
 use Rattle.rules.specs.Lines.{newline}
 use Rattle.rules.specs.Writing.{blank, digits_of, set_text, follow, answer_line, plan_line, join_line, refusal_line}
 

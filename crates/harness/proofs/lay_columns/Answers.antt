@@ -1,5 +1,5 @@
 use mathlib.Core.Path.{sym, ap, ◌∙◌}
-use Rattle.rules.specs.declared.Verdict.{Verdict}
+use Rattle.rules.specs.Verdict.{Verdict}
 use Rattle.rules.specs.Refusals.{Input}
 use Rattle.planner.specs.PlanLaws.{checks-are, lay-ready, laid-lengths}
 use Rattle.harness.specs.Columns.{lay_input}

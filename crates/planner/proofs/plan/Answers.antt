@@ -1,7 +1,7 @@
 use mathlib.Core.Path.{◌≡◌, refl, sym, ap, ◌∙◌}
 use Rattle.rules.specs.Refusals.{Input, first_of, checks, checks_of, memo_lengths, log_lengths}
 use Rattle.query.specs.Lists.{query_of}
-use Rattle.rules.specs.declared.Verdict.{Verdict}
+use Rattle.rules.specs.Verdict.{Verdict}
 use Rattle.planner.specs.Plans.{memory_of, input_of}
 use Rattle.planner.specs.PlanLaws.{checks-are, refused-answer, lay-ready, laid-lengths, planned-checks, planned-rooms, search-ready, rows-some, rows_few, rows_fit, last-cell, last-in, crew-known, log-fits, planned-given}
 use Rattle.runs.specs.SearchLaws.{logged-lengths}

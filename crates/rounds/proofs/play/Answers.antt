@@ -1,5 +1,5 @@
 use Rattle.std.proofs.Common.{◌∙◌, sym, ap}
-use Rattle.rules.specs.declared.Verdict.{Verdict}
+use Rattle.rules.specs.Verdict.{Verdict}
 use Rattle.rules.specs.laws.Refusals.{sound-of}
 use Rattle.query.specs.Lists.{query_of}
 use Rattle.memo.specs.Layout.{lent}
