@@ -35,11 +35,11 @@ pub record Filled (g : Graph) (n t chosen z : ℕ) (starts ends out out' values 
   pub estimates : Laid (map (estimate g) (memo g)) n starts ends values values'
 
 -- a node that fills: what it knows, and both lists have room for all rows
-pub record Filling (g : Graph) (near parts : List ℕ) (n t : ℕ) (chosen : Chosen) (z e : ℕ) (starts out values : List ℕ) : Type 0 where
+pub record Filling (g : Graph) (near parts : List ℕ) (n t : ℕ) (chosen : Chosen) (e : ℕ) (starts out values : List ℕ) : Type 0 where
   pub node : Node g near n t chosen
   pub valued : Valued g parts t chosen.set e
-  pub smaller : z < t
+  pub smaller : chosen.size < t
   pub long : n < length starts
-  pub placed : Placed g n t chosen.set z starts
+  pub placed : Placed g n t chosen.set chosen.size starts
   pub room : length (memo g) ≤ length out
   pub estimates-room : length (memo g) ≤ length values

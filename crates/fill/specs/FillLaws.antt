@@ -147,58 +147,58 @@ module _ {g : Graph} {n t chosen : ℕ} (z x : ℕ) (row : Bool) (starts : List 
       which j i a c d (no f) (no q) = second.cells j i a (omega arith) d
 
 -- ---- a node that fills: x is table t as a set, `more` the estimate with it
-module _ {g : Graph} {near parts : List ℕ} {n t : ℕ} {chosen : Chosen} {z e : ℕ} {starts out values : List ℕ} (c : Filling g near parts n t chosen z e starts out values) (x : ℕ) (row : Bool) (l : t ≤ n) (q : x ≡ single t)
+module _ {g : Graph} {near parts : List ℕ} {n t : ℕ} {e : ℕ} {chosen : Chosen} {starts out values : List ℕ} (c : Filling g near parts n t chosen e starts out values) (x : ℕ) (row : Bool) (l : t ≤ n) (q : x ≡ single t)
     (r : row ≡ is_yes (connected? g (chosen.set + x))) where
   abbrev place : ℕ
-  place = get_or starts (z + 1) 0
+  place = get_or starts (chosen.size + 1) 0
 
   abbrev estimates : List ℕ
   estimates = map (estimate g) (memo g)
 
-  inside : z + 1 < length starts
+  inside : chosen.size + 1 < length starts
   inside = omega (arith, c.smaller, c.long)
 
-  inside-n : z + 1 ≤ n
+  inside-n : chosen.size + 1 ≤ n
   inside-n = omega (arith, c.smaller)
 
   there : row ≡ true → (place < length (memo g)) × (get_or (memo g) (place) 0 ≡ chosen.set + x)
-  there = row-place z x row starts {v = cond row (place + 1) (place)} l q r inside inside-n refl c.placed
+  there = row-place chosen.size x row starts {v = cond row (place + 1) (place)} l q r inside inside-n refl c.placed
 
   pub fits-row : row ≡ true → (place < length out) × (place < length values)
   fits-row b = (omega (arith, c.room, (there b).0), omega (arith, c.estimates-room, (there b).0))
 
   module _ {v more : ℕ} {wrote valued : List ℕ} (w : v ≡ cond row (place + 1) (place)) (m : more ≡ min max_estimate (by_parts parts (bit_and chosen.set (at near t)) t (t - 1) (e * get_or parts (cell_of t t) 0)))
       (i : length wrote ≡ length out) (j : length valued ≡ length values) where
-    pub filling-with : Filling g near parts n (t + 1) (taking chosen x (at near t) row) (z + 1) more (set starts (z + 1) v) wrote valued
+    pub filling-with : Filling g near parts n (t + 1) (taking chosen x (at near t) row) more (set starts (chosen.size + 1) v) wrote valued
     filling-with = record {
       node = node-with c.node x l q row r;
       valued = valued-with c.node c.valued l x more q m;
       smaller = omega (arith, c.smaller);
-      long = omega (arith, c.long, length-set starts (z + 1) v);
-      placed = placed-with z x row starts l q r inside inside-n w c.placed;
+      long = omega (arith, c.long, length-set starts (chosen.size + 1) v);
+      placed = placed-with chosen.size x row starts l q r inside inside-n w c.placed;
       room = omega (arith, c.room);
       estimates-room = omega (arith, c.estimates-room);
     }
 
-    module _ {ends mid values-mid : List ℕ} (f : Filled g n (t + 1) (chosen.set + x) (z + 1) (set starts (z + 1) v) ends wrote mid valued values-mid) where
-      pub filling-without : length ends ≡ length (set starts (z + 1) v) → length mid ≡ length wrote → length values-mid ≡ length valued → Filling g near parts n (t + 1) chosen z e ends mid values-mid
+    module _ {ends mid values-mid : List ℕ} (f : Filled g n (t + 1) (chosen.set + x) (chosen.size + 1) (set starts (chosen.size + 1) v) ends wrote mid valued values-mid) where
+      pub filling-without : length ends ≡ length (set starts (chosen.size + 1) v) → length mid ≡ length wrote → length values-mid ≡ length valued → Filling g near parts n (t + 1) chosen e ends mid values-mid
       filling-without a b d = record {
         node = node-without c.node l;
         valued = valued-without c.node c.valued l;
         smaller = omega (arith, c.smaller);
-        long = omega (arith, c.long, length-set starts (z + 1) v);
-        placed = placed-without z x row starts l q r inside inside-n w c.placed f.places;
+        long = omega (arith, c.long, length-set starts (chosen.size + 1) v);
+        placed = placed-without chosen.size x row starts l q r inside inside-n w c.placed f.places;
         room = omega (arith, c.room);
         estimates-room = omega (arith, c.estimates-room);
       }
 
       -- one step of filling
       pub filled-step : {last new values-new : List ℕ} → wrote ≡ cond row (set out (place) (chosen.set + x)) out → valued ≡ cond row (set values (place) more) values
-          → Filled g n (t + 1) chosen.set z ends last mid new values-mid values-new → Filled g n t chosen.set z starts last out new values values-new
+          → Filled g n (t + 1) chosen.set chosen.size ends last mid new values-mid values-new → Filled g n t chosen.set chosen.size starts last out new values values-new
       filled-step a b h = record {
         places = tallied-step x row starts l q r inside w f.places h.places;
-        sets = laid-step z x row starts l q r inside inside-n w c.placed (memo g) out (kept_row row place (chosen.set + x) (memo g) out there c.room a) (put-row row place (chosen.set + x) (memo g) out there c.room a) f.sets h.sets;
-        estimates = laid-step z x row starts l q r inside inside-n w c.placed estimates values (kept_row row place more estimates values valued-there room b) (put-row row place more estimates values valued-there room b) f.estimates h.estimates;
+        sets = laid-step chosen.size x row starts l q r inside inside-n w c.placed (memo g) out (kept_row row place (chosen.set + x) (memo g) out there c.room a) (put-row row place (chosen.set + x) (memo g) out there c.room a) f.sets h.sets;
+        estimates = laid-step chosen.size x row starts l q r inside inside-n w c.placed estimates values (kept_row row place more estimates values valued-there room b) (put-row row place more estimates values valued-there room b) f.estimates h.estimates;
       }
         where
           room : length estimates ≤ length values
@@ -307,6 +307,6 @@ starts_none g starts e s l =
     ap (λ (j : ℕ). get_or starts j 0) z ∙ e ∙ sym (ap length (up_to-none g)) ∙ ap (λ (j : ℕ). length (up_to g j)) y
 
 pub filling-root : (g : Graph) (near parts starts out values : List ℕ) → GoodGraph g → Near g near → Parts g (edge_count g) parts → table_count g < length starts → length (memo g) ≤ length out → length (memo g) ≤ length values → ((s : ℕ) → s ≤ table_count g → get_or starts s 0 ≡ length (up_to g (s - 1)))
-    → Filling g near parts (table_count g) 1 nothing 0 1 starts out values
+    → Filling g near parts (table_count g) 1 nothing 1 starts out values
 filling-root g near parts starts out values good n p l m k h =
     record { node = root g near good n; valued = valued-root g parts good p; smaller = omega arith; long = l; placed = placed-root g starts h; room = m; estimates-room = k }

@@ -8,8 +8,8 @@ ghost use Rattle.rules.specs.Estimate.{estimate};
 ghost use Rattle.rules.specs.Rows.{memo};
 ghost use Rattle.fill.specs.Fill.{Filling, Filled};
 
-use graph::chosen::Chosen;
-use graph::near::{grows, neighbours, stuck};
+use graph::chosen::{Chosen, NONE};
+use graph::near::Neighbours;
 use parts::{table_parts, with_part};
 use rows::tally::{SIZES, Tally};
 use sets::single;
@@ -29,47 +29,40 @@ fn put(row: bool, s: u64, e: u64, out: &mut [u64], estimates: &mut [u64], at: us
     at
 }
 
-// Writes, each at its size's place, the connected sets that add some of the tables from `t` on to the chosen ones, `size` tables whose estimate is `e`; moves the places on.
+// Writes, each at its size's place, the connected sets that add some of the tables from `t` on to the chosen ones, whose estimate is `e`; moves the places on.
 fn fill_from(
-    near: &[u64; 16],
+    near: &Neighbours,
     parts: &[u64; 256],
-    tables: u64,
     t: u64,
     chosen: Chosen,
-    size: usize,
     e: u64,
     starts: &mut [usize],
     out: &mut [u64],
     estimates: &mut [u64],
 )
-    requires { (g : Graph) × Filling g near.now parts.now tables t chosen size e starts.old out.old estimates.old }
-    ensures { (g : Graph) → Filling g near.now parts.now tables t chosen size e starts.old out.old estimates.old → Filled g tables t chosen.set size starts.old starts.new out.old out.new estimates.old estimates.new }
+    requires { (g : Graph) × Filling g near.now.of parts.now near.now.tables t chosen e starts.old out.old estimates.old }
+    ensures { (g : Graph) → Filling g near.now.of parts.now near.now.tables t chosen e starts.old out.old estimates.old → Filled g near.now.tables t chosen.set chosen.size starts.old starts.new out.old out.new estimates.old estimates.new }
 {
-    if t > tables {
+    if t > near.tables {
         return;
     }
     let bit = single(t);
-    let rest = single(tables + 1) - bit;
-    if stuck(near, chosen, rest) {
+    let rest = single(near.tables + 1) - bit;
+    if near.stuck(chosen, rest) {
         return;
     }
-    let row = grows(near, chosen, bit);
-    let beside = near[(t - 1) as usize];
+    let row = near.grows(chosen, bit);
+    let beside = near.of[(t - 1) as usize];
     let with = Chosen {
         set: chosen.set + bit,
+        size: chosen.size + 1,
         around: chosen.around | beside,
         joined: row,
     };
     let more = with_part(parts, t, chosen.set & beside, e);
-    let after = t + 1;
-    let larger = size + 1;
-    starts[larger] = put(row, with.set, more, out, estimates, starts[larger]);
-    fill_from(
-        near, parts, tables, after, with, larger, more, starts, out, estimates,
-    );
-    fill_from(
-        near, parts, tables, after, chosen, size, e, starts, out, estimates,
-    );
+    starts[with.size] = put(row, with.set, more, out, estimates, starts[with.size]);
+    fill_from(near, parts, t + 1, with, more, starts, out, estimates);
+    fill_from(near, parts, t + 1, chosen, e, starts, out, estimates);
 }
 
 // Writes the sets and the estimates of all rows, in memo order.
@@ -79,7 +72,7 @@ pub fn lay_rows(tally: &Tally, out: &mut [u64], estimates: &mut [u64])
     ensures estimates { estimates.new ≡ sets estimates.old 0 (map (estimate tally.now.graph.now) (memo tally.now.graph.now)) }
 {
     let graph = tally.graph;
-    let near = neighbours(graph);
+    let near = Neighbours::new(graph);
     let parts = table_parts(graph);
     let mut starts = [0usize; SIZES];
     let mut at = 0usize;
@@ -87,22 +80,5 @@ pub fn lay_rows(tally: &Tally, out: &mut [u64], estimates: &mut [u64])
         starts[k + 1] = at;
         at += tally.counts[k + 1];
     }
-    let tables = graph.rows.len() as u64;
-    let none = Chosen {
-        set: 0,
-        around: 0,
-        joined: false,
-    };
-    fill_from(
-        &near,
-        &parts,
-        tables,
-        1,
-        none,
-        0,
-        1,
-        &mut starts,
-        out,
-        estimates,
-    );
+    fill_from(&near, &parts, 1, NONE, 1, &mut starts, out, estimates);
 }

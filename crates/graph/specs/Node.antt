@@ -10,9 +10,9 @@ use Rattle.graph.specs.Walk.{walk, onward}
 use Rattle.graph.specs.Near.{Near}
 use Rattle.graph.specs.declared.chosen.Chosen.{Chosen}
 
--- the chosen tables with those of x, where the tables next to those are beside
+-- the chosen tables with the one of x, whose neighbours are beside
 abbrev pub taking : Chosen → ℕ → ℕ → Bool → Chosen
-taking chosen x beside joined = record { set = chosen.set + x; around = bit_or chosen.around beside; joined = joined }
+taking chosen x beside joined = record { set = chosen.set + x; size = chosen.size + 1; around = bit_or chosen.around beside; joined = joined }
 
 -- what is known at a node, where the tables 1 to t - 1 have been taken or left: the chosen ones' neighbours, and whether they are connected
 pub record Node (g : Graph) (near : List ℕ) (n t : ℕ) (chosen : Chosen) : Type 0 where

@@ -2,7 +2,8 @@
 ghost use Rattle.std.specs.Prelude.{◌≡◌, ◌+◌, ◌≤◌, ◌<◌};
 ghost use Rattle.rules.specs.Limits.{max_tables};
 ghost use Rattle.rules.specs.Sets.{Disjoint};
-ghost use Rattle.rules.specs.Query.{edge_count};
+ghost use Rattle.rules.specs.Query.{table_count, edge_count};
+ghost use Rattle.rules.specs.Checked.{GoodGraph};
 ghost use Rattle.rules.specs.laws.Connected.{Within};
 ghost use Rattle.graph.specs.Near.{far_of, NextTo, Near, Told};
 ghost use Rattle.graph.specs.Node.{Grows, Stuck};
@@ -36,66 +37,79 @@ fn next_to(graph: &Graph, t: u64) -> u64
     r
 }
 
-// The neighbours of each table: table t's stand at t - 1.
-pub fn neighbours(graph: &Graph) -> [u64; 16]
-    ensures { Near graph.now result }
-{
-    let mut near = [0u64; 16];
-    for k in 0..graph.rows.len() {
-        near[k] = next_to(graph, k as u64 + 1);
-    }
-    near
+// The tables next to each table, as sets, and how many tables there are: table t's neighbours stand at t - 1.
+#[derive(Drop)]
+pub struct Neighbours {
+    pub of: [u64; 16],
+    pub tables: u64,
 }
 
-// Whether a flood inside a set, from the lowest table of `goal`, reaches all of `goal`.
-fn joins(near: &[u64; 16], inside: u64, goal: u64) -> bool
-    requires { (0 < goal) × (inside < 65536) × Within goal inside }
-    ensures { Told near.now inside goal result }
-{
-    let mut seen = single(lowest_table(goal));
-    let mut todo = seen;
-    while overlap(goal, inside - seen) {
-        if todo == 0 {
+impl Neighbours {
+    pub fn new(graph: &Graph) -> Neighbours
+        ensures good { GoodGraph graph.now }
+        ensures near { Near graph.now result.of }
+        ensures count { result.tables ≡ table_count graph.now }
+    {
+        let mut of = [0u64; 16];
+        for k in 0..graph.rows.len() {
+            of[k] = next_to(graph, k as u64 + 1);
+        }
+        Neighbours {
+            of,
+            tables: graph.rows.len() as u64,
+        }
+    }
+
+    // Whether a flood inside a set, from the lowest table of `goal`, reaches all of `goal`.
+    fn joins(&self, inside: u64, goal: u64) -> bool
+        requires { (0 < goal) × (inside < 65536) × Within goal inside }
+        ensures { Told self.now.of inside goal result }
+    {
+        let mut seen = single(lowest_table(goal));
+        let mut todo = seen;
+        while overlap(goal, inside - seen) {
+            if todo == 0 {
+                return false;
+            }
+            let t = lowest_table(todo);
+            let fresh = self.of[(t - 1) as usize] & (inside - seen);
+            seen += fresh;
+            todo = todo - single(t) + fresh;
+        }
+        true
+    }
+
+    // Whether the chosen tables and `bit`, one more, are connected.
+    pub fn grows(&self, chosen: Chosen, bit: u64) -> bool
+        requires { chosen.set + bit < 65536 }
+        ensures { Grows self.now.of chosen bit result }
+    {
+        if chosen.set == 0 {
+            return true;
+        }
+        if !overlap(chosen.around, bit) {
             return false;
         }
-        let t = lowest_table(todo);
-        let fresh = near[(t - 1) as usize] & (inside - seen);
-        seen = seen + fresh;
-        todo = todo - single(t) + fresh;
+        if chosen.joined {
+            return true;
+        }
+        self.joins(chosen.set + bit, chosen.set + bit)
     }
-    true
-}
 
-// Whether the chosen tables and `bit`, one more, are connected.
-pub fn grows(near: &[u64; 16], chosen: Chosen, bit: u64) -> bool
-    requires { chosen.set + bit < 65536 }
-    ensures { Grows near.now chosen bit result }
-{
-    if chosen.set == 0 {
-        return true;
+    // Whether the chosen tables can be joined no more by tables of `rest`: true only where no connected set adds some to them.
+    pub fn stuck(&self, chosen: Chosen, rest: u64) -> bool
+        requires { Disjoint chosen.set rest × (chosen.set + rest < 65536) }
+        ensures { Stuck self.now.of chosen rest result }
+    {
+        if chosen.set == 0 {
+            return false;
+        }
+        if !overlap(chosen.around, rest) {
+            return true;
+        }
+        if chosen.joined {
+            return false;
+        }
+        !self.joins(chosen.set + rest, chosen.set)
     }
-    if !overlap(chosen.around, bit) {
-        return false;
-    }
-    if chosen.joined {
-        return true;
-    }
-    joins(near, chosen.set + bit, chosen.set + bit)
-}
-
-// Whether the chosen tables can be joined no more by tables of `rest`: true only where no connected set adds some to them.
-pub fn stuck(near: &[u64; 16], chosen: Chosen, rest: u64) -> bool
-    requires { Disjoint chosen.set rest × (chosen.set + rest < 65536) }
-    ensures { Stuck near.now chosen rest result }
-{
-    if chosen.set == 0 {
-        return false;
-    }
-    if !overlap(chosen.around, rest) {
-        return true;
-    }
-    if chosen.joined {
-        return false;
-    }
-    !joins(near, chosen.set + rest, chosen.set)
 }

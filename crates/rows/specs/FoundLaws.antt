@@ -99,25 +99,25 @@ module _ {g : Graph} {n t chosen z : ℕ} where
     sizes = λ s k. omega (arith, first.sizes s k, second.sizes s k, count-here row (chosen + x) z old b w s, found-length g n t chosen x z row l e r s);
   }
 
-module _ {near : List ℕ} {n t : ℕ} {chosen : Chosen} {z : ℕ} {counts : List ℕ} (c : Counting near n t chosen z counts) (x : ℕ) (row : Bool) (l : t ≤ n) (e : x ≡ single t)
-    (r : (g : Graph) → Node g near n t chosen → row ≡ is_yes (connected? g (chosen.set + x))) {v : ℕ} (w : v ≡ cond row (get_or counts (z + 1) 0 + 1) (get_or counts (z + 1) 0)) where
-  inside-counts : z + 1 < length counts
+module _ {near : List ℕ} {n t : ℕ} {chosen : Chosen} {counts : List ℕ} (c : Counting near n t chosen counts) (x : ℕ) (row : Bool) (l : t ≤ n) (e : x ≡ single t)
+    (r : (g : Graph) → Node g near n t chosen → row ≡ is_yes (connected? g (chosen.set + x))) {v : ℕ} (w : v ≡ cond row (get_or counts (chosen.size + 1) 0 + 1) (get_or counts (chosen.size + 1) 0)) where
+  inside-counts : chosen.size + 1 < length counts
   inside-counts = omega (arith, c.smaller, c.long)
 
-  pub counting-with : Counting near n (t + 1) (taking chosen x (at near t) row) (z + 1) (set counts (z + 1) v)
+  pub counting-with : Counting near n (t + 1) (taking chosen x (at near t) row) (set counts (chosen.size + 1) v)
   counting-with = record {
     g = c.g;
     node = node-with c.node x l e row (r c.g c.node);
     smaller = omega (arith, c.smaller);
-    long = omega (arith, c.long, length-set counts (z + 1) v);
-    room = λ s k. omega (arith, c.room s k, count-here row (chosen.set + x) z counts inside-counts w s, found-length c.g n t chosen.set x z row l e (r c.g c.node) s);
+    long = omega (arith, c.long, length-set counts (chosen.size + 1) v);
+    room = λ s k. omega (arith, c.room s k, count-here row (chosen.set + x) chosen.size counts inside-counts w s, found-length c.g n t chosen.set x chosen.size row l e (r c.g c.node) s);
   }
 
-  pub counting-without : {mid : List ℕ} → length mid ≡ length (set counts (z + 1) v) → ((g : Graph) → Node g near n (t + 1) (taking chosen x (at near t) row) → Tallied g n (t + 1) (chosen.set + x) (z + 1) (set counts (z + 1) v) mid) → Counting near n (t + 1) chosen z mid
+  pub counting-without : {mid : List ℕ} → length mid ≡ length (set counts (chosen.size + 1) v) → ((g : Graph) → Node g near n (t + 1) (taking chosen x (at near t) row) → Tallied g n (t + 1) (chosen.set + x) (chosen.size + 1) (set counts (chosen.size + 1) v) mid) → Counting near n (t + 1) chosen mid
   counting-without {mid} i h = record {
     g = c.g;
     node = node-without c.node l;
     smaller = omega (arith, c.smaller);
-    long = omega (arith, c.long, length-set counts (z + 1) v);
-    room = λ s k. omega (arith, c.room s k, count-here row (chosen.set + x) z counts inside-counts w s, found-length c.g n t chosen.set x z row l e (r c.g c.node) s, (h c.g (node-with c.node x l e row (r c.g c.node))).sizes s k);
+    long = omega (arith, c.long, length-set counts (chosen.size + 1) v);
+    room = λ s k. omega (arith, c.room s k, count-here row (chosen.set + x) chosen.size counts inside-counts w s, found-length c.g n t chosen.set x chosen.size row l e (r c.g c.node) s, (h c.g (node-with c.node x l e row (r c.g c.node))).sizes s k);
   }

@@ -19,12 +19,12 @@ pub record Tallied (g : Graph) (n t chosen z : ℕ) (old new : List ℕ) : Type 
   pub sizes : (s : ℕ) → s ≤ n → get_or new s 0 ≡ get_or old s 0 + length (found g s z t (n + 1 - t) chosen)
 
 -- a node that counts: some graph's node, and no count overflows
-pub record Counting (near : List ℕ) (n t : ℕ) (chosen : Chosen) (z : ℕ) (counts : List ℕ) : Type 0 where
+pub record Counting (near : List ℕ) (n t : ℕ) (chosen : Chosen) (counts : List ℕ) : Type 0 where
   pub g : Graph
   pub node : Node g near n t chosen
-  pub smaller : z < t
+  pub smaller : chosen.size < t
   pub long : n < length counts
-  pub room : (s : ℕ) → s ≤ n → get_or counts s 0 + length (found g s z t (n + 1 - t) chosen.set) ≤ 65536
+  pub room : (s : ℕ) → s ≤ n → get_or counts s 0 + length (found g s chosen.size t (n + 1 - t) chosen.set) ≤ 65536
 
 -- how many rows of each size there are: size k's number stands at k
 pub record Tally (g : Graph) (counts : List ℕ) : Type 0 where

@@ -29,7 +29,7 @@ found-fits g n s z t chosen few l = go (dec_lt z s)
 
 -- no table chosen
 abbrev pub nothing : Chosen
-nothing = record { set = 0; around = 0; joined = false }
+nothing = record { set = 0; size = 0; around = 0; joined = false }
 
 pub root : (g : Graph) (near : List ℕ) → GoodGraph g → Near g near → Node g near (table_count g) 1 nothing
 root g near good n = record {
@@ -55,7 +55,7 @@ zero-cells n m k l = go (dec_lt k n)
     go (yes h) = get_or-replicate n k none none h
     go (no h) = get_or-eq_default (replicate n none) none (omega (arith, length-replicate n none))
 
-pub counting-root : (g : Graph) (near counts : List ℕ) → GoodGraph g → Near g near → table_count g < length counts → ((k : ℕ) → k ≤ table_count g → get_or counts k 0 ≡ 0) → Counting near (table_count g) 1 nothing 0 counts
+pub counting-root : (g : Graph) (near counts : List ℕ) → GoodGraph g → Near g near → table_count g < length counts → ((k : ℕ) → k ≤ table_count g → get_or counts k 0 ≡ 0) → Counting near (table_count g) 1 nothing counts
 counting-root g near counts good n l h = record {
   g = g;
   node = root g near good n;

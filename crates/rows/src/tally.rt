@@ -6,8 +6,8 @@ ghost use Rattle.rules.specs.Skips.{skips};
 ghost use Rattle.graph.specs.Node.{Node};
 ghost use Rattle.rows.specs.Tally.{Tallied, Counting, Tally};
 
-use graph::chosen::Chosen;
-use graph::near::{grows, neighbours, stuck};
+use graph::chosen::{Chosen, NONE};
+use graph::near::Neighbours;
 use query::graph::Graph;
 use sets::single;
 
@@ -28,15 +28,9 @@ impl<'a> Tally<'a> {
     pub fn new(graph: &'a Graph<'a>) -> Tally<'a>
         ensures { result.graph.now ≡ graph.now }
     {
-        let near = neighbours(graph);
-        let tables = graph.rows.len() as u64;
-        let none = Chosen {
-            set: 0,
-            around: 0,
-            joined: false,
-        };
+        let near = Neighbours::new(graph);
         let mut counts = [0usize; SIZES];
-        tally_from(&near, tables, 1, none, 0, &mut counts);
+        tally_from(&near, 1, NONE, &mut counts);
         Tally { graph, counts }
     }
 
@@ -65,35 +59,27 @@ impl<'a> Tally<'a> {
     }
 }
 
-// Counts, by size, the connected sets that add some of the tables from `t` on to the chosen ones, `size` tables: table `t` is taken, then left.
-fn tally_from(
-    near: &[u64; 16],
-    tables: u64,
-    t: u64,
-    chosen: Chosen,
-    size: usize,
-    counts: &mut [usize],
-)
-    requires { Counting near.now tables t chosen size counts.old }
-    ensures { (g : Graph) → Node g near.now tables t chosen → Tallied g tables t chosen.set size counts.old counts.new }
+// Counts, by size, the connected sets that add some of the tables from `t` on to the chosen ones: table `t` is taken, then left.
+fn tally_from(near: &Neighbours, t: u64, chosen: Chosen, counts: &mut [usize])
+    requires { Counting near.now.of near.now.tables t chosen counts.old }
+    ensures { (g : Graph) → Node g near.now.of near.now.tables t chosen → Tallied g near.now.tables t chosen.set chosen.size counts.old counts.new }
 {
-    if t > tables {
+    if t > near.tables {
         return;
     }
     let bit = single(t);
-    let rest = single(tables + 1) - bit;
-    if stuck(near, chosen, rest) {
+    let rest = single(near.tables + 1) - bit;
+    if near.stuck(chosen, rest) {
         return;
     }
-    let row = grows(near, chosen, bit);
+    let row = near.grows(chosen, bit);
     let with = Chosen {
         set: chosen.set + bit,
-        around: chosen.around | near[(t - 1) as usize],
+        size: chosen.size + 1,
+        around: chosen.around | near.of[(t - 1) as usize],
         joined: row,
     };
-    let after = t + 1;
-    let larger = size + 1;
-    counts[larger] += usize::from(row);
-    tally_from(near, tables, after, with, larger, counts);
-    tally_from(near, tables, after, chosen, size, counts);
+    counts[with.size] += usize::from(row);
+    tally_from(near, t + 1, with, counts);
+    tally_from(near, t + 1, chosen, counts);
 }

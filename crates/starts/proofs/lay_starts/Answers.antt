@@ -1,5 +1,5 @@
 use mathlib.Core.Path.{refl, sym, ap, ◌∙◌}
-use Prim.Native.Nat.{ℕ, ◌+◌}
+use Prim.Native.Nat.{◌+◌}
 use native.Mathlib.Omega.{arith}
 use lib.ListN.{length, length-set}
 use Rattle.rules.specs.Query.{table_count}
@@ -41,22 +41,6 @@ loop-k-preserved c =
     let counted = t.good.sizes l.k (omega arith) in
     let few = count_fits g l.k (omega arith) (omega arith) counted in
     (length-set l.firsts (l.k + 1) l.row ∙ l.invariant.0, length-set l.cells (l.k + 1) l.cell ∙ l.invariant.1, omega (arith, few.0), omega (arith, few.1), omega (arith, length_more g l.k), omega (arith, cells_count g l.k counted), counts-more (λ j. length (up_to g j)) c.args.firsts.now l.k l.invariant.6 l.invariant.4, counts-more (λ j. length (cells_to g j)) c.args.cells.now l.k l.invariant.7 l.invariant.5)
-
-pub bounds-firsts-0 : goal.bounds-firsts-0
-bounds-firsts-0 c =
-    let n = ap table_count c.graph.view_is in
-    omega (arith, length-set {A = ℕ})
-
-pub bounds-cells-0 : goal.bounds-cells-0
-bounds-cells-0 c =
-    let n = ap table_count c.graph.view_is in
-    omega (arith, length-set {A = ℕ})
-
-pub shape_of-firsts : goal.shape_of-firsts
-shape_of-firsts c = omega (arith, length-set {A = ℕ})
-
-pub shape_of-cells : goal.shape_of-cells
-shape_of-cells c = omega (arith, length-set {A = ℕ})
 
 pub returns : goal.returns
 returns c =

@@ -55,9 +55,6 @@ loop-k-preserved c =
     let z = next-size l.k l.from l.at c.args.tally.now.good (omega arith) (omega arith) c.requires.sets l.invariant.1 l.invariant.2 in
     (c.fill_vectors.auto.out ∙ l.invariant.0, rows_next z, cells-next-at z, wrote-size z c.args.out.now l.invariant.3 c.fill_vectors.ensures)
 
-pub shape_of-out : goal.shape_of-out
-shape_of-out c = c.loop-k.invariant.0
-
 pub returns : goal.returns
 returns c =
     let n = ap table_count c.graph.view_is in

@@ -1,14 +1,9 @@
 use native.Mathlib.Omega.{arith}
-use Rattle.query.specs.ConnectedLaws.{part-le, grown-start, grown-more, grown-end}
+use Rattle.query.specs.ConnectedLaws.{grown-start, grown-more, grown-end}
 use Rattle.query.proofs.connected.reach.Goals as goal
 
 pub loop-i-init : goal.loop-i-init
 loop-i-init c = grown-start _ _ _ (rw c.graph.view_is c.requires)
-
-pub grow-grown-requires : goal.grow-grown-requires
-grow-grown-requires c =
-    let e = c.graph.invariant.edges c.loop-i.i (omega arith) in
-    (e.left-some, omega arith, e.right-some, omega arith, part-le _ _ _ c.loop-i.invariant.part)
 
 pub loop-i-preserved : goal.loop-i-preserved
 loop-i-preserved c =

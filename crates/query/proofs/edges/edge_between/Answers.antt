@@ -1,26 +1,11 @@
 use mathlib.Core.Path.{sym}
 use native.Mathlib.Omega.{arith}
-use Rattle.query.specs.EdgeLaws.{any-start, any-more, crosses-is, crosses-not, between-found, between_none}
+use Rattle.query.specs.EdgeLaws.{any-start, any-more, crosses-is, crosses-not, between_none}
 use Rattle.query.proofs.edges.edge_between.Goals as goal
 use Rattle.query.proofs.edges.edge_between.Goals.{else-has_table-via-then-has_table+else-crosses, else-has_table-via-else-has_table}
 
 pub loop-i-init : goal.loop-i-init
 loop-i-init c = any-start _
-
-pub has_table-requires : goal.has_table-requires
-has_table-requires c =
-    let e = c.graph.invariant.edges c.loop-i.i (omega arith) in
-    (e.left-some, omega arith)
-
-pub crosses-requires : goal.crosses-requires
-crosses-requires c =
-    let e = c.graph.invariant.edges c.loop-i.i (omega arith) in
-    (e.left-some, omega arith, e.right-some, omega arith)
-
-pub returns-then-crosses : goal.returns-then-crosses
-returns-then-crosses c =
-    let g = c.graph.inside in
-    rw (← c.graph.view_is) (sym (between-found _ _ _ c.loop-i.i c.loop-i-test.true (crosses-is g.left.now g.right.now _ _ c.loop-i.i c.crosses.ensures c.if-crosses.true)))
 
 pub loop-i-preserved : goal.loop-i-preserved
 loop-i-preserved c =

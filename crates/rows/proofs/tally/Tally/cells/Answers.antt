@@ -5,7 +5,6 @@ use lib.ListN.{get_or}
 use Rattle.rules.specs.Query.{table_count}
 use Rattle.rows.specs.WalkLaws.{cells-none, cells-next, cells-end, cells_fit}
 use Rattle.rows.proofs.tally.Tally.cells.Goals as goal
-use Rattle.rows.proofs.tally.Tally.cells.Goals.{In-loop-k}
 
 pub loop-k-init : goal.loop-k-init
 loop-k-init c = (omega arith, sym (cells-none _))

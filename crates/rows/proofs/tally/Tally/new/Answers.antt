@@ -5,10 +5,12 @@ use Rattle.rows.proofs.tally.Tally.new.Goals as goal
 
 pub tally_from-requires : goal.tally_from-requires
 tally_from-requires c =
-    counting-root _ c.neighbours-near.result (replicate 17 0) c.graph.invariant (rw c.graph.view_is c.neighbours-near.ensures) (omega (arith, c.graph.invariant.few-tables)) (zero-cells 17 (length c.graph.inside.rows.now))
+    let g = c.args.graph.now in
+    let near = c.new-near.ensures in
+    rw near.count (counting-root g c.new-near.result.of (replicate 17 0) near.good near.near (omega (arith, near.good.few-tables)) (zero-cells 17 (length g.rows)))
 
 pub invariant_of-result : goal.invariant_of-result
-invariant_of-result c = record {
-  long = c.tally_from.auto.counts;
-  good = rw (← c.graph.view_is) (tallied-root _ (replicate 17 0) (omega (arith, c.graph.invariant.few-tables, c.tally_from.auto.counts)) (zero-cells 17 (length c.graph.inside.rows.now)) (c.tally_from.ensures _ (root _ c.neighbours-near.result c.graph.invariant (rw c.graph.view_is c.neighbours-near.ensures))));
-}
+invariant_of-result c =
+    let g = c.args.graph.now in
+    let near = c.new-near.ensures in
+    record { long = c.tally_from.auto.counts; good = tallied-root g (replicate 17 0) (omega (arith, near.good.few-tables, c.tally_from.auto.counts)) (zero-cells 17 (length g.rows)) (rw near.count at (c.tally_from.ensures g (rw near.count (root g c.new-near.result.of near.good near.near)))) }

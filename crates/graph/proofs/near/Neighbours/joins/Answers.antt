@@ -3,8 +3,8 @@ use Prim.Native.Nat.{◌-◌}
 use native.Mathlib.Omega.{arith}
 use Rattle.rules.specs.Query.{at}
 use Rattle.graph.specs.ApartLaws.{overlap-some}
-use Rattle.graph.specs.NearLaws.{goal-fits, table_fits, flood-fits, flood-start, start-meets, reached-start, fresh-fits, todo-some, flood-less, flood-step, still-meets, reached-step, told-no, told-yes, overlap-none}
-use Rattle.graph.proofs.near.joins.Goals as goal
+use Rattle.graph.specs.NearLaws.{goal-fits, table_fits, flood-fits, flood-start, start-meets, reached-start, fresh-fits, todo-some, flood-step, still-meets, reached-step, told-no, told-yes, overlap-none}
+use Rattle.graph.proofs.near.Neighbours.joins.Goals as goal
 
 pub lowest_table-requires : goal.lowest_table-requires
 lowest_table-requires c = omega (arith, goal-fits c.args.inside c.args.goal c.requires.1 c.requires.2)
@@ -17,9 +17,6 @@ pub loop-inside-init : goal.loop-inside-init
 loop-inside-init c =
     let lowest-table' = c.lowest_table in
     (flood-start c.args.inside c.args.goal lowest-table'.result c.single-seen.result c.requires.2 lowest-table'.ensures c.single-seen.ensures, start-meets c.args.inside c.args.goal lowest-table'.result c.single-seen.result c.requires.2 lowest-table'.ensures c.single-seen.ensures, λ g n k. reached-start c.args.inside c.args.goal lowest-table'.result c.single-seen.result c.requires.2 lowest-table'.ensures c.single-seen.ensures g k)
-
-pub overflow_sub-inside : goal.overflow_sub-inside
-overflow_sub-inside c = (flood-fits c.loop-inside.invariant.0).0
 
 pub returns-then-todo-eq0 : goal.returns-then-todo-eq0
 returns-then-todo-eq0 c =
@@ -34,24 +31,15 @@ overflow_sub-fresh c =
     let l = c.loop-inside in
     omega (arith, table_fits l.todo c.lowest_table-t.result (omega (arith, (flood-fits l.invariant.0).1, c.requires.1)) c.lowest_table-t.ensures.stands)
 
-pub offset_bounds-near-t : goal.offset_bounds-near-t
-offset_bounds-near-t c =
+pub offset_bounds-self-t : goal.offset_bounds-self-t
+offset_bounds-self-t c =
     let l = c.loop-inside in
     omega (arith, table_fits l.todo c.lowest_table-t.result (omega (arith, (flood-fits l.invariant.0).1, c.requires.1)) c.lowest_table-t.ensures.stands)
 
-pub bounds-near-t : goal.bounds-near-t
-bounds-near-t c =
+pub bounds-self-t : goal.bounds-self-t
+bounds-self-t c =
     let l = c.loop-inside in
     omega (arith, table_fits l.todo c.lowest_table-t.result (omega (arith, (flood-fits l.invariant.0).1, c.requires.1)) c.lowest_table-t.ensures.stands)
-
-pub overflow_sub-fresh-in-loop-inside : goal.overflow_sub-fresh-in-loop-inside
-overflow_sub-fresh-in-loop-inside c = (flood-fits c.loop-inside.invariant.0).0
-
-pub overflow_add-seen : goal.overflow_add-seen
-overflow_add-seen c =
-    let l = c.loop-inside in
-    let lowest-table2' = c.lowest_table-t in
-    omega (arith, (flood-fits l.invariant.0).0, fresh-fits lowest-table2'.result (at c.args.near.now lowest-table2'.result) l.invariant.0 lowest-table2'.ensures.stands, c.requires.1)
 
 pub single-requires : goal.single-requires
 single-requires c =
@@ -65,18 +53,13 @@ pub overflow_add-todo : goal.overflow_add-todo
 overflow_add-todo c =
     let l = c.loop-inside in
     let lowest-table2' = c.lowest_table-t in
-    omega (arith, (flood-fits l.invariant.0).1, fresh-fits lowest-table2'.result (at c.args.near.now lowest-table2'.result) l.invariant.0 lowest-table2'.ensures.stands, c.requires.1)
-
-pub loop-inside-smaller : goal.loop-inside-smaller
-loop-inside-smaller c =
-    let lowest-table2' = c.lowest_table-t in
-    omega (arith, flood-less lowest-table2'.result (at c.args.near.now lowest-table2'.result) c.loop-inside.invariant.0 lowest-table2'.ensures.stands, c.single.ensures)
+    omega (arith, (flood-fits l.invariant.0).1, fresh-fits lowest-table2'.result (at c.args.self.now.of lowest-table2'.result) l.invariant.0 lowest-table2'.ensures.stands, c.requires.1)
 
 pub loop-inside-preserved : goal.loop-inside-preserved
 loop-inside-preserved c =
     let l = c.loop-inside in
     let lowest-table2' = c.lowest_table-t in
-    rw c.single.ensures (flood-step lowest-table2'.result (at c.args.near.now lowest-table2'.result) l.invariant.0 lowest-table2'.ensures.stands, still-meets lowest-table2'.result (at c.args.near.now lowest-table2'.result) l.invariant.0 lowest-table2'.ensures.stands c.args.goal l.invariant.1, λ g n k. reached-step lowest-table2'.result (at c.args.near.now lowest-table2'.result) l.invariant.0 lowest-table2'.ensures.stands g n k refl (l.invariant.2 g n k))
+    rw c.single.ensures (flood-step lowest-table2'.result (at c.args.self.now.of lowest-table2'.result) l.invariant.0 lowest-table2'.ensures.stands, still-meets lowest-table2'.result (at c.args.self.now.of lowest-table2'.result) l.invariant.0 lowest-table2'.ensures.stands c.args.goal l.invariant.1, λ g n k. reached-step lowest-table2'.result (at c.args.self.now.of lowest-table2'.result) l.invariant.0 lowest-table2'.ensures.stands g n k refl (l.invariant.2 g n k))
 
 pub returns : goal.returns
 returns c =
