@@ -61,8 +61,8 @@ module _ {line cells : List ℕ} {k : ℕ} (t : Taken line k cells) (count : ℕ
   unfolding all_numbers
   opened l = rw (drop-cons (number_fields line) k [] (rw (how-many line count h) l), number_at line k, add-one)
 
-  pub taken-bad : (r : Option ℕ) → k < count → r ≡ number_of (field line (k + 1)) → r ≡ None → false ≡ all_numbers (number_fields line)
-  taken-bad r l e b = sym (t.numeric ∙ opened l ∙ rw (bad-field (field line (k + 1)) r e b))
+  pub taken-bad : (r : Option ℕ) → k < count → r ≡ number_of (field line (k + 1)) → r ≡ None → all_numbers (number_fields line) ≡ false
+  taken-bad r l e b = t.numeric ∙ opened l ∙ rw (bad-field (field line (k + 1)) r e b)
 
   pub taken_next : (r : Option ℕ) (v : ℕ) → count ≤ 4 → k < count → r ≡ number_of (field line (k + 1)) → r ≡ Some v → Taken line (k + 1) (set cells k v)
   taken_next r v c l e b =
@@ -79,9 +79,9 @@ module _ {line cells : List ℕ} {k : ℕ} (t : Taken line k cells) (count : ℕ
       are-next j m w (no q) = get_or-set_other cells k j v 0 q ∙ t.are j (omega arith)
 
   module _ (l : count ≤ k) where
-    pub taken-all : true ≡ all_numbers (number_fields line)
+    pub taken-all : all_numbers (number_fields line) ≡ true
     unfolding all_numbers
-    taken-all = sym (t.numeric ∙ rw (drop_of_length-le (number_fields line) {i = k} (omega (arith, how-many line count h))))
+    taken-all = t.numeric ∙ rw (drop_of_length-le (number_fields line) {i = k} (omega (arith, how-many line count h)))
 
     pub taken-values : k ≤ count → (j : ℕ) → get_or cells j 0 ≡ get_or (values line) j 0
     taken-values m j = go (dec_lt j k)

@@ -6,8 +6,9 @@ use Rattle.rules.specs.Rows.{memo}
 use Rattle.rules.specs.Skips.{skips}
 use Rattle.rules.specs.Refusals.{Memory}
 use Rattle.memo.specs.declared.layout.Laid.{Laid}
-use Rattle.memo.specs.declared.layout.Short.{Short}
-use Rattle.memo.specs.declared.layout.Short.TheVariants.{Rows, Cells}
+use Rattle.rules.specs.declared.refusal.Reason.TheVariants.{MemoRows, SkipCells}
+use Rattle.rules.specs.declared.refusal.Refusal.{Refusal}
+use Rattle.rules.specs.Verdict.{verdict_of}
 use Rattle.memo.specs.declared.lent.Memo.{Memo}
 use Rattle.skips.specs.Vectors.{written}
 
@@ -63,21 +64,22 @@ laid g old = record {
   skips = written old.skips 0 (skips g);
 }
 
--- the number of a refusal
-abbrev pub number_of : Short → ℕ
-number_of Rows = 13
-number_of Cells = 14
+-- "memo rows fewer than connected sets", "skip cells fewer than the sum of those sets' sizes"
+abbrev pub few_rows : Refusal
+few_rows = record { reason = MemoRows; place = 0 }
+
+abbrev pub few_cells : Refusal
+few_cells = record { reason = SkipCells; place = 0 }
 
 -- the number of an answer: 0 where there is no refusal
-abbrev pub refusal_of : Result Laid Short → ℕ
-refusal_of (Ok l) = 0
-refusal_of (Err s) = number_of s
+abbrev pub refusal_of : Result Laid Refusal → ℕ
+refusal_of r = (verdict_of r).number
 
 abbrev pub counts : Graph → Laid
 counts g = record { rows = length (memo g); cells = length (skips g) }
 
 -- the answer and what is left of what was lent, in each of the three cases
-pub record LaidOut (g : Graph) (old new : Lent) (r : Result Laid Short) : Type 0 where
-  pub refused13 : length old.sets < length (memo g) → (r ≡ Err Rows) × (new ≡ old)
-  pub refused14 : length (memo g) ≤ length old.sets → length old.skips < length (skips g) → (r ≡ Err Cells) × (new ≡ old)
+pub record LaidOut (g : Graph) (old new : Lent) (r : Result Laid Refusal) : Type 0 where
+  pub refused13 : length old.sets < length (memo g) → (r ≡ Err few_rows) × (new ≡ old)
+  pub refused14 : length (memo g) ≤ length old.sets → length old.skips < length (skips g) → (r ≡ Err few_cells) × (new ≡ old)
   pub given : Room g old → (r ≡ Ok (counts g)) × (new ≡ laid g old)

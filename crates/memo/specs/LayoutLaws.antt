@@ -25,9 +25,8 @@ use Rattle.starts.specs.Starts.{cells_to}
 use Rattle.starts.specs.CountLaws.{cells-size, cells_count}
 use Rattle.skips.specs.VectorLaws.{vectors-of}
 use Rattle.memo.specs.declared.layout.Laid.{Laid}
-use Rattle.memo.specs.declared.layout.Short.{Short}
-use Rattle.memo.specs.declared.layout.Short.TheVariants.{Rows, Cells}
-use Rattle.memo.specs.Layout.{Lent, lent, lent_of, Room, laid, refusal_of, counts, LaidOut, OneLength}
+use Rattle.rules.specs.declared.refusal.Refusal.{Refusal}
+use Rattle.memo.specs.Layout.{Lent, lent, lent_of, Room, laid, refusal_of, few_rows, few_cells, counts, LaidOut, OneLength}
 
 -- ---- lists in a row
 row-whole : {C : Type 0} (f : ℕ → List C) (k n : ℕ) → k ≤ n → in_row f 1 n ≡ in_row f 1 k ++ in_row f (1 + k) (n - k)
@@ -136,27 +135,27 @@ pub lent_same : {s e c o m k s' e' c' o' m' k' : List ℕ} → s ≡ s' → e �
 lent_same a b c d e f = rw (a, b, c, d, e, f)
 
 -- ---- the three cases
-pub counted : (g : Graph) (n m : ℕ) → n ≡ length (memo g) → m ≡ length (skips g) → {r : Result Laid Short} → r ≡ Ok (record { rows = n; cells = m }) → r ≡ Ok (counts g)
+pub counted : (g : Graph) (n m : ℕ) → n ≡ length (memo g) → m ≡ length (skips g) → {r : Result Laid Refusal} → r ≡ Ok (record { rows = n; cells = m }) → r ≡ Ok (counts g)
 counted g n m e f q = q ∙ rw (e, f)
 
 module _ (g : Graph) (old : Lent) where
-  pub too-few-rows : {r : Result Laid Short} {n : ℕ} → n ≡ length (memo g) → length old.sets < n → r ≡ Err Rows → LaidOut g old old r
+  pub too-few-rows : {r : Result Laid Refusal} {n : ℕ} → n ≡ length (memo g) → length old.sets < n → r ≡ Err few_rows → LaidOut g old old r
   too-few-rows e h q = record { refused13 = λ a. (q, refl); refused14 = λ a b. absurd (omega arith); given = λ a. absurd (omega arith) }
 
-  pub too-few-cells : {r : Result Laid Short} {n m : ℕ} → n ≡ length (memo g) → n ≤ length old.sets → m ≡ length (skips g) → length old.skips < m → r ≡ Err Cells → LaidOut g old old r
+  pub too-few-cells : {r : Result Laid Refusal} {n m : ℕ} → n ≡ length (memo g) → n ≤ length old.sets → m ≡ length (skips g) → length old.skips < m → r ≡ Err few_cells → LaidOut g old old r
   too-few-cells e h f k q = record { refused13 = λ a. absurd (omega arith); refused14 = λ a b. (q, refl); given = λ a. absurd (omega arith) }
 
   pub room_for : {n m : ℕ} → n ≡ length (memo g) → n ≤ length old.sets → m ≡ length (skips g) → m ≤ length old.skips → Room g old
   room_for e h f k = record { rows = omega arith; cells = omega arith }
 
-  pub enough : {new : Lent} {r : Result Laid Short} → Room g old → r ≡ Ok (counts g) → new ≡ laid g old → LaidOut g old new r
+  pub enough : {new : Lent} {r : Result Laid Refusal} → Room g old → r ≡ Ok (counts g) → new ≡ laid g old → LaidOut g old new r
   enough h q w = record { refused13 = λ a. absurd (omega arith); refused14 = λ a b. absurd (omega arith); given = λ a. (q, w) }
 
   -- ONE OUTCOME for what was lent
-  pub laid-unique : {new new' : Lent} {r r' : Result Laid Short} → LaidOut g old new r → LaidOut g old new' r' → (r ≡ r') × (new ≡ new')
+  pub laid-unique : {new new' : Lent} {r r' : Result Laid Refusal} → LaidOut g old new r → LaidOut g old new' r' → (r ≡ r') × (new ≡ new')
   laid-unique {new} {new'} {r} {r'} a b = go (dec_lt (length old.sets) (length (memo g))) (dec_lt (length old.skips) (length (skips g)))
     where
-      both : {q : Result Laid Short} {l : Lent} → (r ≡ q) × (new ≡ l) → (r' ≡ q) × (new' ≡ l) → (r ≡ r') × (new ≡ new')
+      both : {q : Result Laid Refusal} {l : Lent} → (r ≡ q) × (new ≡ l) → (r' ≡ q) × (new' ≡ l) → (r ≡ r') × (new ≡ new')
       both x y = (x.0 ∙ sym y.0, x.1 ∙ sym y.1)
 
       go : Dec (length old.sets < length (memo g)) → Dec (length old.skips < length (skips g)) → (r ≡ r') × (new ≡ new')
@@ -165,14 +164,14 @@ module _ (g : Graph) (old : Lent) where
       go (no h) (no k) = let l : Room g old = record { rows = omega arith; cells = omega arith } in both (a.given l) (b.given l)
 
 -- the answer's number is what the rules say of refusals 13 and 14
-pub laid-verdict : (i : Input) {new : Lent} {r : Result Laid Short} → LaidOut i.query.graph (lent_of i.lent) new r → refusal_of r ≡ (first_of (rooms i)).number
+pub laid-verdict : (i : Input) {new : Lent} {r : Result Laid Refusal} → LaidOut i.query.graph (lent_of i.lent) new r → refusal_of r ≡ (first_of (rooms i)).number
 unfolding rooms first_of refuse
 laid-verdict i {new} {r} a = go (dec_lt (length i.lent.sets) (length (memo g))) (dec_lt (length i.lent.skips) (length (skips g)))
   where
     g : Graph
     g = i.query.graph
 
-    number : {q : Result Laid Short} → r ≡ q → refusal_of r ≡ refusal_of q
+    number : {q : Result Laid Refusal} → r ≡ q → refusal_of r ≡ refusal_of q
     number e = ap refusal_of e
 
     go : Dec (length i.lent.sets < length (memo g)) → Dec (length i.lent.skips < length (skips g)) → refusal_of r ≡ (first_of (rooms i)).number

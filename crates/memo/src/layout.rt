@@ -8,6 +8,7 @@ ghost use Rattle.memo.specs.Layout.{held, SameLists, OneLength, Room, laid, Laid
 use super::lent::Memo;
 use fill::lay_rows;
 use rows::tally::Tally;
+use rules::refusal::{Reason, Refusal};
 use skips::fill_vectors;
 
 // How many rows and skip cells have been laid out.
@@ -15,13 +16,6 @@ use skips::fill_vectors;
 pub struct Laid {
     pub rows: u64,
     pub cells: u64,
-}
-
-// What is too short to lay them out: refusal 13 or 14.
-#[derive(Clone, Copy, PartialEq, Eq)]
-pub enum Short {
-    Rows,
-    Cells,
 }
 
 // Writes the skip vectors of all sizes, in memo order; `sets` begins with the sets of all rows.
@@ -62,19 +56,19 @@ fn lay_columns(tally: &Tally, count: usize, lent: &mut Memo)
     lay_skips(tally, sets, skips);
 }
 
-// Lays out the memo, or tells which lent list is too short; nothing is written before both counts have passed.
-pub fn lay_out(tally: &Tally, lent: &mut Memo) -> Result<Laid, Short>
+// Lays out the memo, or answers refusal 13 or 14 where a lent list is too short; nothing is written before both counts have passed.
+pub fn lay_out(tally: &Tally, lent: &mut Memo) -> Result<Laid, Refusal>
     requires { OneLength (held lent.old) }
     ensures same { SameLists lent.old lent.new }
     ensures laid { LaidOut tally.now.graph.now (held lent.old) (held lent.new) result }
 {
     let rows = tally.rows();
     if lent.sets.len() < rows {
-        return Err(Short::Rows);
+        return Err(Reason::MemoRows.at(0));
     }
     let cells = tally.cells();
     if lent.skips.len() < cells {
-        return Err(Short::Cells);
+        return Err(Reason::SkipCells.at(0));
     }
     lay_columns(tally, rows, lent);
     Ok(Laid {

@@ -4,7 +4,7 @@ ghost use Rattle.rules.specs.Query.{Graph};
 ghost use Rattle.rules.specs.Rows.{memo};
 ghost use Rattle.rules.specs.Skips.{skips};
 ghost use Rattle.graph.specs.Node.{Node};
-ghost use Rattle.rows.specs.Tally.{Tallied, Counting, Tally};
+ghost use Rattle.rows.specs.Tally.{Tallied, Counting, Tally as IsTally};
 
 use graph::chosen::{Chosen, NONE};
 use graph::near::Neighbours;
@@ -14,26 +14,15 @@ use sets::single;
 // Room for a number of each size: sizes 0 to N, of at most 16 tables.
 pub const SIZES: usize = 17;
 
-// How many rows of each size a graph's memo has: size k's number stands at k.
-#[derive(Drop)]
+// A graph with how many rows of each size its memo has: size k's number stands at k.
+#[derive(Clone, Copy)]
 pub struct Tally<'a> {
     pub graph: &'a Graph<'a>,
-    pub counts: [usize; SIZES],
-    ghost long: { length counts ≡ 17 },
-    ghost good: { Tally graph.now counts },
+    pub counts: &'a [usize],
+    ghost good: { IsTally graph.now counts.now },
 }
 
-impl<'a> Tally<'a> {
-    // Counts the rows of each size.
-    pub fn new(graph: &'a Graph<'a>) -> Tally<'a>
-        ensures { result.graph.now ≡ graph.now }
-    {
-        let near = Neighbours::new(graph);
-        let mut counts = [0usize; SIZES];
-        tally_from(&near, 1, NONE, &mut counts);
-        Tally { graph, counts }
-    }
-
+impl Tally<'_> {
     // How many rows there are.
     pub fn rows(&self) -> usize
         ensures { result ≡ length (memo self.now.graph.now) }
@@ -57,6 +46,17 @@ impl<'a> Tally<'a> {
         }
         sum
     }
+}
+
+// Counts the rows of each size.
+pub fn count_rows(graph: &Graph) -> [usize; SIZES]
+    ensures counts { IsTally graph.now result }
+    ensures long { length result ≡ 17 }
+{
+    let near = Neighbours::new(graph);
+    let mut counts = [0usize; SIZES];
+    tally_from(&near, 1, NONE, &mut counts);
+    counts
 }
 
 // Counts, by size, the connected sets that add some of the tables from `t` on to the chosen ones: table `t` is taken, then left.

@@ -1,7 +1,7 @@
 // The text entry's work: a text's bytes to the bytes of its answer.
 #![tactic(auto)]
 
-ghost use Rattle.std.specs.Prelude.{◌≡◌, ◌≤◌, length};
+ghost use Rattle.std.specs.Prelude.{◌≡◌, ◌≤◌, ◌+◌, length};
 ghost use Rattle.rules.specs.Limits.{answer_room};
 ghost use Rattle.rules.specs.Lists.{over};
 ghost use Rattle.rules.specs.Refusals.{Input, verdict};
@@ -9,11 +9,12 @@ ghost use Rattle.rules.specs.Text.{text_input, input_of, text_verdict, Written};
 ghost use Rattle.query.specs.Lists.{query_of};
 ghost use Rattle.text.specs.Composing.{Answered, Composed};
 
+use digits::Line;
 use planner::{Answer, plan};
 use reader::reading::read;
 use rules::Verdict;
 use sets::single;
-use writer::joins::put_joins;
+use writer::joins::{Memo, put_joins};
 use writer::lines::{put_plan, put_refusal};
 
 // One list to the start of another.
@@ -26,39 +27,29 @@ fn copy(from: &[u8], to: &mut [u8])
     }
 }
 
-// Writes what planning answered for n tables: an X line, or a P line and the joins that stand in the memo's rows.
-fn put_answer(
-    out: &mut [u8],
-    n: u64,
-    answer: Answer,
-    sets: &[u64],
-    estimates: &[u64],
-    costs: &[u64],
-    outers: &[u64],
-    methods: &[u64],
-) -> usize
-    requires room { answer_room ≤ length out.old }
-    requires answered { (i : Input) × Answered i n answer sets.now estimates.now costs.now outers.now methods.now }
-    ensures { (i : Input) → Answered i n answer sets.now estimates.now costs.now outers.now methods.now → Composed (verdict i) i out.old out.new result }
+// Writes what planning answered: an X line, or a P line and the joins that stand in the memo.
+fn put_answer(line: &mut Line, answer: Answer, memo: &Memo)
+    requires room { line.old.at + answer_room ≤ length line.old.out.now }
+    requires answered { (i : Input) × Answered i answer memo.now }
+    ensures { (i : Input) → Answered i answer memo.now → Composed (verdict i) i line.old line.new }
 {
     if answer.refusal != 0 {
-        return put_refusal(
-            out,
-            0,
+        put_refusal(
+            line,
             Verdict {
                 number: answer.refusal,
                 place: answer.place,
             },
         );
+        return;
     }
-    let joins = put_plan(out, 0, answer.best, answer.pairs);
-    let all = single(n + 1) - 1;
-    put_joins(out, joins, n, all, sets, estimates, costs, outers, methods)
+    put_plan(line, answer.best, answer.pairs);
+    put_joins(line, single(memo.tables + 1) - 1, memo);
 }
 
 // Plans what was read, in memory of its own, and writes the answer.
 fn plan_read(
-    out: &mut [u8],
+    line: &mut Line,
     rows: &[u64],
     scans: &[u64],
     left: &[u64],
@@ -70,9 +61,9 @@ fn plan_read(
     res: &[u64],
     workers: u64,
     scheme: u64,
-) -> usize
-    requires { answer_room ≤ length out.old }
-    ensures { Composed (verdict (text_input (query_of rows.now scans.now left.now right.now divisors.now fixed.now outer.now inner.now res.now) workers scheme)) (text_input (query_of rows.now scans.now left.now right.now divisors.now fixed.now outer.now inner.now res.now) workers scheme) out.old out.new result }
+)
+    requires { line.old.at + answer_room ≤ length line.old.out.now }
+    ensures { Composed (verdict (text_input (query_of rows.now scans.now left.now right.now divisors.now fixed.now outer.now inner.now res.now) workers scheme)) (text_input (query_of rows.now scans.now left.now right.now divisors.now fixed.now outer.now inner.now res.now) workers scheme) line.old line.new }
 {
     let turns = [0u64; 0];
     let mut sets = [0u64; 1023];
@@ -109,22 +100,21 @@ fn plan_read(
         &mut log_inner,
         &mut log_costs,
     );
-    put_answer(
-        out,
-        rows.len() as u64,
-        answer,
-        &sets,
-        &estimates,
-        &costs,
-        &outers,
-        &methods,
-    )
+    let memo = Memo {
+        tables: rows.len() as u64,
+        sets: &sets,
+        estimates: &estimates,
+        costs: &costs,
+        outers: &outers,
+        methods: &methods,
+    };
+    put_answer(line, answer, &memo);
 }
 
-// The answer to a text, at the start of `out`, which any answer fits; and its length.
-fn compose(text: &[u8], out: &mut [u8]) -> usize
-    requires { answer_room ≤ length out.old }
-    ensures { Composed (text_verdict text.now) (input_of text.now) out.old out.new result }
+// The answer to a text, where any answer fits.
+fn compose(text: &[u8], line: &mut Line)
+    requires { line.old.at + answer_room ≤ length line.old.out.now }
+    ensures { Composed (text_verdict text.now) (input_of text.now) line.old line.new }
 {
     let mut rows = [0u64; 16];
     let mut scans = [0u64; 16];
@@ -148,13 +138,14 @@ fn compose(text: &[u8], out: &mut [u8]) -> usize
         &mut result,
     );
     if held.verdict.number != 0 {
-        return put_refusal(out, 0, held.verdict);
+        put_refusal(line, held.verdict);
+        return;
     }
     let tables = held.progress.tables;
     let edges = held.progress.edges;
     let ways = held.progress.methods;
     plan_read(
-        out,
+        line,
         &rows[0..tables],
         &scans[0..tables],
         &left[0..edges],
@@ -166,7 +157,7 @@ fn compose(text: &[u8], out: &mut [u8]) -> usize
         &result[0..ways],
         held.progress.workers,
         held.progress.scheme,
-    )
+    );
 }
 
 // Plans the query of a text, and writes the answer to the start of a lent buffer: its length, or 0 and nothing written where it
@@ -176,10 +167,15 @@ pub fn plan_bytes(query: &[u8], answer: &mut [u8]) -> usize
 {
     let room = answer.len();
     let mut lines = [0u8; 4096];
-    let length = compose(query, &mut lines);
+    let mut line = Line {
+        out: &mut lines,
+        at: 0,
+    };
+    compose(query, &mut line);
+    let length = line.at;
     if room < length {
         return 0;
     }
-    copy(&lines[0..length], answer);
+    copy(&line.out[0..length], answer);
     length
 }

@@ -6,7 +6,7 @@ use Rattle.text.proofs.compose.Goals as goal
 
 pub put_refusal-requires : goal.put_refusal-requires
 put_refusal-requires c =
-    refusal-fits _ _ (omega arith) (omega arith) c.requires
+    refusal-fits c.args.line.now _ (omega arith) (omega arith) c.requires
 
 pub returns-then-held-ne0 : goal.returns-then-held-ne0
 returns-then-held-ne0 c =

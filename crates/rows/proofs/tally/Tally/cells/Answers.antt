@@ -13,20 +13,20 @@ pub overflow_mul-sum : goal.overflow_mul-sum
 overflow_mul-sum c =
     let s = c.args.self.now in
     let n = ap table_count c.graph.view_is in
-    omega (arith, cells_fit s.graph.now c.loop-k.k (get_or s.counts (c.loop-k.k + 1) 0) (omega arith) (omega arith) (s.good.sizes c.loop-k.k (omega arith)))
+    omega (arith, cells_fit s.graph.now c.loop-k.k (get_or s.counts.now (c.loop-k.k + 1) 0) (omega arith) (omega arith) (s.good.sizes c.loop-k.k (omega arith)))
 
 pub overflow_add-sum-in-loop-k-2 : goal.overflow_add-sum-in-loop-k-2
 overflow_add-sum-in-loop-k-2 c =
     let s = c.args.self.now in
     let n = ap table_count c.graph.view_is in
-    omega (arith, cells_fit s.graph.now c.loop-k.k (get_or s.counts (c.loop-k.k + 1) 0) (omega arith) (omega arith) (s.good.sizes c.loop-k.k (omega arith)))
+    omega (arith, cells_fit s.graph.now c.loop-k.k (get_or s.counts.now (c.loop-k.k + 1) 0) (omega arith) (omega arith) (s.good.sizes c.loop-k.k (omega arith)))
 
 pub loop-k-preserved : goal.loop-k-preserved
 loop-k-preserved c =
     let s = c.args.self.now in
     let n = ap table_count c.graph.view_is in
     let counted = s.good.sizes c.loop-k.k (omega arith) in
-    (omega (arith, cells_fit s.graph.now c.loop-k.k (get_or s.counts (c.loop-k.k + 1) 0) (omega arith) (omega arith) counted), cells-next s.graph.now c.loop-k.k c.loop-k.invariant.1 counted)
+    (omega (arith, cells_fit s.graph.now c.loop-k.k (get_or s.counts.now (c.loop-k.k + 1) 0) (omega arith) (omega arith) counted), cells-next s.graph.now c.loop-k.k c.loop-k.invariant.1 counted)
 
 pub returns : goal.returns
 returns c =
