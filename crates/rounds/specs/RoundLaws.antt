@@ -24,7 +24,7 @@ use Rattle.rules.specs.laws.Shares.{cut-mono}
 use Rattle.rules.proofs.laws.Rows.{memo-only, below_all}
 use Rattle.rules.specs.laws.Refusals.{sound-of, crew-named, crew-of, turns-of}
 use Rattle.memo.specs.declared.layout.Laid.{Laid}
-use Rattle.memo.specs.declared.layout.Short.{Short}
+use Rattle.rules.specs.declared.refusal.Refusal.{Refusal}
 use Rattle.skips.specs.Vectors.{written}
 use Rattle.starts.specs.Starts.{starts, cell_starts}
 use Rattle.memo.specs.Layout.{Lent, OneLength, Room, laid, LaidOut}
@@ -176,7 +176,7 @@ module _ (q : Query) (workers scheme : ℕ) (turns log : List ℕ) (old : Lent)
   pub one : OneLength old
   one = one-length q workers scheme turns log old passed
 
-  module _ {new : Lent} {r : Result Laid Short} (laid_out : LaidOut q.graph old new r) (not-refused : is_err r ≡ false) where
+  module _ {new : Lent} {r : Result Laid Refusal} (laid_out : LaidOut q.graph old new r) (not-refused : is_err r ≡ false) where
     -- what is not refused has room
     room : Room q.graph old
     room = record { rows = rows (dec_lt (length old.sets) (length (memo q.graph))); cells = cells (dec_lt (length old.sets) (length (memo q.graph))) (dec_lt (length old.skips) (length (skips q.graph))) }

@@ -2,7 +2,8 @@
 use Rattle.std.specs.Prelude.{◌≡◌, Some, List, ℕ, ◌-◌, ◌*◌, ◌^◌, ◌≤◌, ◌<◌, length, get_or}
 use Rattle.rules.specs.declared.Crew.{Crew}
 use Rattle.rules.specs.Schedule.{by_size}
-use Rattle.rules.specs.Query.{Query}
+use Rattle.rules.specs.Query.{Graph, Query}
+use Rattle.results.specs.declared.price.Rates.{Rates}
 use Rattle.rules.specs.declared.Shape.TheVariants.{Bushy}
 use Rattle.shares.specs.declared.places.Spot.{Spot}
 use Rattle.shares.specs.Shares.{few}
@@ -11,9 +12,13 @@ use Rattle.turns.specs.Standing.{Columns, Reach, Final, Standing, Work}
 use Rattle.crew.specs.Workers.{worker_at}
 use Rattle.turns.specs.declared.setting.Setting.{Setting}
 
+-- the query of a graph, its scan costs and what its methods cost
+abbrev pub query_at : Graph → List ℕ → Rates → Query
+query_at g scans r = record { graph = g; scans = scans; fixed = r.fixed.now; per_outer = r.outer.now; per_inner = r.inner.now; per_result = r.res.now; shape = Bushy }
+
 -- the query that turns go by, with its scan costs
 abbrev pub query_by : Setting → List ℕ → Query
-query_by s scans = record { graph = s.footing.graph.now; scans = scans; fixed = s.rates.fixed.now; per_outer = s.rates.outer.now; per_inner = s.rates.inner.now; per_result = s.rates.res.now; shape = Bushy }
+query_by s scans = query_at s.footing.graph.now scans s.rates
 
 -- a set that can be printed table by table
 abbrev pub Printable : ℕ → Type 0

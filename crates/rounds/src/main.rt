@@ -2,14 +2,16 @@
 // What it must print was worked out from document 01 apart from this code, and stands in `stdout`.
 #![tactic(auto)]
 
-ghost use Rattle.std.specs.Prelude.{◌≡◌, IfOk, IfSome, ℕ, ◌+◌, ◌-◌, ◌≤◌, ◌<◌, length};
+ghost use Rattle.std.specs.Prelude.{◌≡◌, IfOk, IfSome, ℕ, ◌+◌, ◌-◌, ◌≤◌, ◌<◌, length, map, take};
 ghost use Rattle.rules.specs.declared.Shape.TheVariants.{Bushy};
 ghost use Rattle.rules.specs.Schedule.{by_size};
 ghost use Rattle.rules.specs.Query.{table_count};
+ghost use Rattle.rules.specs.Rows.{memo};
+ghost use Rattle.rules.specs.Estimate.{estimate};
 ghost use Rattle.turns.specs.Standing.{Work};
 ghost use Rattle.turns.specs.Taken.{columns_of};
 ghost use Rattle.crew.specs.Workers.{worker_at};
-ghost use Rattle.rounds.specs.Rounds.{query_by, Printable, Shown, Between, Within, Started};
+ghost use Rattle.rounds.specs.Rounds.{query_at, query_by, Printable, Shown, Between, Within, Started};
 
 use crew::whose::{entries_on, lowest, whose_turn};
 use crew::{Handed, Worker, nobody};
@@ -22,7 +24,7 @@ use query::lists::Query;
 use refusals::{Lengths, check};
 use results::keep::Columns;
 use results::price::Rates;
-use rows::tally::Tally;
+use rows::tally::{Tally, count_rows};
 use rules::{Crew, Group, Scheme};
 use sets::{lowest_table, single};
 use shares::Share;
@@ -164,31 +166,39 @@ fn take_turns(
 }
 
 // Opens the group of each size, prints where its workers wait, and takes its turns.
-fn run_sizes(
+fn run_sizes<'a>(
     rt: &impl Print,
-    setting: &Setting,
+    footing: &Footing<'a>,
+    rates: &Rates<'a>,
+    estimates: &'a [u64],
     scans: &[u64],
     columns: &mut Columns,
     crew: Crew,
     turns: &[u64],
 ) -> io::Result<()>
-    requires { Started (query_by setting.now scans.now) crew turns.now (columns_of columns.old) }
+    requires estimated { take (length (memo footing.now.graph.now)) estimates.now ≡ map (estimate footing.now.graph.now) (memo footing.now.graph.now) }
+    requires started { Started (query_at footing.now.graph.now scans.now rates.now) crew turns.now (columns_of columns.old) }
 {
-    let graph = setting.footing.graph;
+    let setting = Setting {
+        footing: *footing,
+        rates: *rates,
+        estimates,
+    };
+    let graph = footing.graph;
     let tables = graph.rows.len();
     let mut workers = [nobody(); 8];
     let mut used = 0;
     for k in 1..tables {
-        open(&setting.footing, Group::by_size(k), crew, &mut workers);
+        open(footing, Group::by_size(k), crew, &mut workers);
         print_size(
             rt,
-            setting.footing.sets,
+            footing.sets,
             k + 1,
             crew.scheme,
             &workers[..crew.workers as usize],
         )?;
         used = take_turns(
-            rt, setting, scans, columns, k, crew, turns, &mut workers, used,
+            rt, &setting, scans, columns, k, crew, turns, &mut workers, used,
         )?;
     }
     Ok(())
@@ -243,7 +253,11 @@ fn run(rt: &impl Print, scheme: Scheme, workers: u64, listed: usize) -> io::Resu
         right: &right,
         divisors: &divisors,
     };
-    let tally = Tally::new(&graph);
+    let counts = count_rows(&graph);
+    let tally = Tally {
+        graph: &graph,
+        counts: &counts,
+    };
     let mut memo = Memo {
         sets: &mut sets,
         estimates: &mut estimates,
@@ -258,29 +272,45 @@ fn run(rt: &impl Print, scheme: Scheme, workers: u64, listed: usize) -> io::Resu
     let mut starts = [0usize; SIZES];
     let mut cells = [0usize; SIZES];
     lay_starts(&tally, &mut starts, &mut cells);
-    lay_scans(query.scans, &mut costs);
-    let setting = Setting {
-        footing: Footing {
-            graph: &graph,
-            sets: &sets,
-            skips: &skips,
-            starts: &starts,
-            cells: &cells,
-        },
-        rates: Rates {
-            fixed: &fixed,
-            outer: &per_outer,
-            inner: &per_inner,
-            res: &per_result,
-        },
-        estimates: &estimates,
+    let Memo {
+        sets,
+        estimates,
+        costs,
+        outers,
+        methods,
+        skips,
+    } = memo;
+    lay_scans(&scans, costs);
+    let sets: &[u64] = sets;
+    let skips: &[u64] = skips;
+    let footing = Footing {
+        graph: &graph,
+        sets,
+        skips,
+        starts: &starts,
+        cells: &cells,
+    };
+    let rates = Rates {
+        fixed: &fixed,
+        outer: &per_outer,
+        inner: &per_inner,
+        res: &per_result,
     };
     let mut columns = Columns {
-        costs: &mut costs,
-        outers: &mut outers,
-        methods: &mut methods,
+        costs,
+        outers,
+        methods,
     };
-    run_sizes(rt, &setting, query.scans, &mut columns, crew, turns)
+    run_sizes(
+        rt,
+        &footing,
+        &rates,
+        estimates,
+        &scans,
+        &mut columns,
+        crew,
+        turns,
+    )
 }
 
 fn run_named(rt: &impl Print, scheme: Scheme, workers: u64, listed: usize) -> io::Result<()>
