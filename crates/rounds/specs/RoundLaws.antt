@@ -3,9 +3,7 @@ use Rattle.std.specs.Prelude.{◌≡◌, ◌⊎◌, Bool, true, false, cond, Lis
 use Rattle.std.specs.Result.{is_err}
 use Rattle.std.proofs.Common.{sym, ap, ◌∙◌, inl, inr, ⊎_elim, add-one, arith, pow_mono, ltb-true, length-take, get_or-take}
 use Rattle.std.proofs.Math.Decide.{dec_lt}
-use Rattle.std.proofs.lemmas.List.{get_or-replicate}
 use Rattle.std.proofs.lemmas.Option.{same_Some}
-use Rattle.rules.specs.Limits.{max_workers}
 use Rattle.rules.specs.declared.Crew.{Crew}
 use Rattle.rules.specs.declared.Group.{Group}
 use Rattle.rules.specs.Kinds.{new_crew}
@@ -35,7 +33,7 @@ use Rattle.pairs.specs.Places.{Fit, Ground}
 use Rattle.crew.specs.declared.Worker.{Worker}
 use Rattle.crew.specs.declared.Handed as code
 use Rattle.opening.specs.Opening.{Opened}
-use Rattle.turns.specs.Standing.{Columns, columns, top_of, Reach, Open, Board, Ready, InPlace, TurnTaken, Final, Work}
+use Rattle.turns.specs.Standing.{Columns, columns, top_of, Reach, Open, Board, Ready, InPlace, TurnTaken, Work}
 use Rattle.crew.specs.Workers.{nobody, worker_at}
 use Rattle.turns.specs.StandingLaws.{open-first, open-places, top-is, fit_is, few-handed, standing-open, standing-turn, standing-closed}
 use Rattle.turns.specs.QueueLaws.{still_met, turn-progress, turn-progress-none}
@@ -96,10 +94,6 @@ shown-taken workers {m} f w l =
 -- no column gets shorter
 turn-reach : {g : Graph} {fixed outer inner result : List ℕ} {group : Group} {w : ℕ} {workers workers' : List Worker} {c new : Columns} {pair : Option code.Handed} → TurnTaken g fixed outer inner result group w workers workers' c new pair → Reach g c → Reach g new
 turn-reach t r = record { costs = omega (arith, r.costs, step-costs t.step); outers = omega (arith, r.outers, step-outers t.step); methods = omega (arith, r.methods, step-methods t.step) }
-
--- before the first group nothing was handed
-pub first-between : {q : Query} {crew : Crew} {c : Columns} {v : Worker} → crew.workers ≤ max_workers → v ≡ nobody → Reach q.graph c → Final q crew (by_size q.shape) 1 c → Between q crew 1 (replicate 8 v) c
-first-between {v = v} few-workers e r f = record { reach = r; final = f; handed = λ w l. omega (arith, ap (λ (x : Worker). x.handed) (get_or-replicate 8 w v nobody (omega arith) ∙ e)) }
 
 module _ {q : Query} {crew : Crew} {turns : List ℕ} (work : Work q crew (by_size q.shape) turns) {k : ℕ} (one : 1 ≤ k) (known : k ≤ table_count q.graph - 1) {group : Group} (is : group ≡ by_size q.shape k) where
   -- it fits

@@ -198,7 +198,15 @@ fn run_sizes<'a>(
             &workers[..crew.workers as usize],
         )?;
         used = take_turns(
-            rt, &setting, scans, columns, k, crew, turns, &mut workers, used,
+            rt,
+            &setting,
+            scans,
+            columns,
+            k,
+            crew,
+            turns,
+            &mut workers,
+            used,
         )?;
     }
     Ok(())
