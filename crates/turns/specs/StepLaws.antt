@@ -147,9 +147,9 @@ module _ {g : Graph} {fixed outer inner result sets estimates cells starts cell_
         same w m (inl e) = rw (e, eq-eqb X X refl, D, I) refl
         same w m (inr e) = rw (e, ne_eqb Y X (λ f. apart-differ X Y joined.driving-conn.some joined.joinable.apart (sym f)), D, I, add_comm Y X) (omega arith)
 
-    -- costs of the two can be added
-    pub base-fits : get_or c.costs p.row 0 + get_or c.costs p.inner 0 < cost_bound + cost_bound
-    base-fits = omega (arith, b.below p.row smaller.0, b.below p.inner smaller.1)
+    -- costs of the two are within their limit, so they can be added
+    pub cost-bounds : (get_or c.costs p.row 0 < cost_bound) × (get_or c.costs p.inner 0 < cost_bound)
+    cost-bounds = (b.below p.row smaller.0, b.below p.inner smaller.1)
 
     -- the size that the code computes
     module _ (z : ℕ) (ze : z ≡ result_at group p.size) where
