@@ -32,7 +32,7 @@ const SIZES: usize = 18;
 
 // Fills the memo, whose rows `tally` tells, by turns, group after group, and notes them in the log.
 pub fn search<'a>(
-    tally: &'a Tally<'a>,
+    tally: &Tally<'a>,
     scans: &[u64],
     rates: &Rates<'a>,
     crew: Crew,
