@@ -1,6 +1,6 @@
 -- How the search goes through driving rows: what a row that is done, a size that is done and a pair that is found tell of the next pair.
 use Rattle.std.specs.Prelude.{◌≡◌, refl, true, false, cond, List, ℕ, zero, suc, ◌+◌, ◌-◌, ◌*◌, ◌/◌, ◌≤◌, ◌<◌, eqb, length, get_or}
-use Rattle.std.proofs.Common.{sym, ap, ap₂, ◌∙◌, mul-suc, mul-le-mul, add-one, arith, eq-eqb, ne_eqb, length-take}
+use Rattle.std.proofs.Common.{sym, ap, ◌∙◌, mul-suc, mul-le-mul, arith, eq-eqb, ne_eqb, length-take}
 use Rattle.std.proofs.lemmas.Option.{same_Some, none-some}
 use Rattle.std.proofs.Math.Decide.{dec_lt}
 use Rattle.rules.specs.Query.{Graph}
@@ -23,9 +23,6 @@ use Rattle.pairs.specs.GroundLaws.{ground-set, ground-cells, own-at, not_own, ow
 -- the worker may join none of the candidates x to y
 abbrev pub Clear : Graph → Group → Share → ℕ → ℕ → Type 0
 Clear g group h x y = (n : ℕ) → x ≤ n → n < y → own_at g group h n ≡ false
-
-pub clear_none : (g : Graph) (group : Group) (h : Share) (x : ℕ) → Clear g group h x x
-clear_none g group h x n a b = absurd (omega arith)
 
 pub clear-on : (g : Graph) (group : Group) (h : Share) (x y z : ℕ) → Clear g group h x y → Clear g group h y z → Clear g group h x z
 clear-on g group h x y z p q n a b = go (dec_lt n y)

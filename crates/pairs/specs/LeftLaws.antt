@@ -1,6 +1,6 @@
 -- A place has a pair left, or none.
 use Rattle.std.specs.Prelude.{◌≡◌, refl, true, false, Option, Some, None}
-use Rattle.std.proofs.Common.{sym, ap, ◌∙◌}
+use Rattle.std.proofs.Common.{ap}
 use Rattle.std.specs.Option.{is_some}
 use Rattle.rules.specs.laws.Bools.{not-both}
 use Rattle.shares.specs.declared.places.Place.{Place}

@@ -75,6 +75,7 @@ fn aligned(inner: usize, to: usize, step: usize) -> usize
     if to <= inner + step {
         return inner + step;
     }
+    // No `div_ceil`, which takes the rest as well: this is in the search's inmost loop.
     inner + (to - inner + step - 1) / step * step
 }
 
@@ -97,6 +98,7 @@ pub fn along(graph: &Graph, rows: &InnerRows, x: u64, own: Span) -> usize
     ensures { Along graph.now rows.now.sets.now x own result }
 {
     let mut inner = own.from;
+    // No `for`: the skip cells say how far a step goes.
     while inner < own.end {
         if joinable(graph, x, rows.sets[inner]) {
             break;
@@ -108,6 +110,7 @@ pub fn along(graph: &Graph, rows: &InnerRows, x: u64, own: Span) -> usize
 
 // From a driving row on, before which `ahead` candidates come, the worker's next joinable pair, or none: candidates are met smaller
 // size first, then driving row, then inner row.
+// Group and share are no struct with the footing: a share stands in the table of workers, and one more copy a turn would be work.
 pub fn find(
     footing: &Footing,
     group: Group,

@@ -34,7 +34,7 @@ use Rattle.starts.specs.CountLaws.{counts-at, length-starts}
 use Rattle.pairs.specs.Places.{start_of, Fit, Ground}
 use Rattle.pairs.specs.PlaceLaws.{start-next, start-mono, start-memo, memo-inside, memo-row}
 use Rattle.results.specs.Prices.{Methods}
-use Rattle.turns.specs.Standing.{Columns, choice_in, row_in, top_of, result_at, Reach, Open, Board, Handing, Final}
+use Rattle.turns.specs.Standing.{Columns, choice_in, row_in, top_of, result_at, Reach, Open, Handing, Final}
 use Rattle.crew.specs.declared.Worker.{Worker}
 use Rattle.crew.specs.declared.Handed as code
 use Rattle.turns.specs.Index.{index_of, index_at}
@@ -241,12 +241,6 @@ pub ground-of : (g : Graph) (old_sets old_cells old_starts old_cell_starts : Lis
     → Ground g sets cells starts₁ cell_starts₁
 ground-of g old_sets old_cells old_starts old_cell_starts a b c d e f h i = ground-at g old_starts old_cell_starts (front (memo g) old_sets a refl e) (front (skips g) old_cells b refl f) c d h i
 
--- a checked query whose memo is laid out: what no turn changes
-pub record Prepared (q : Query) (sets estimates cells starts cell_starts : List ℕ) : Type 0 where
-  pub sound : Sound q
-  pub footing : Ground q.graph sets cells starts cell_starts
-  pub estimated : take (length (memo q.graph)) estimates ≡ map (estimate q.graph) (memo q.graph)
-
 -- estimates as laying out leaves them
 pub estimated-of : (g : Graph) (old : List ℕ) {estimates : List ℕ} → length (memo g) ≤ length old → estimates ≡ written old 0 (map (estimate g) (memo g)) → take (length (memo g)) estimates ≡ map (estimate g) (memo g)
 estimated-of g old h e =
@@ -288,10 +282,3 @@ open-of {q} {group} {c} sound fit top reach final = record { fit = fit; reach = 
         let x : index_of (memo q.graph) S ≡ r = index_at (memo q.graph) (memo-once q.graph) r S h refl in
         let f : standing.FinalRow q S (choice_in c r) = rw x at (final S d (row_small q.graph (top_of group) r h l)) in
         least-below q sound S (get_or c.costs r 0) f.least
-
-pub board-of : {q : Query} {sets estimates cells starts cell_starts : List ℕ} {group : Group} {c : Columns} → Prepared q sets estimates cells starts cell_starts → Fit q.graph group → top_of group ≤ table_count q.graph → Reach q.graph c
-    → ((S : ℕ) → Connected q.graph S → size S ≤ top_of group → standing.FinalRow q S (row_in q.graph c S))
-    → Board q.graph q.fixed q.per_outer q.per_inner q.per_result sets estimates cells starts cell_starts group c
-board-of p fit top reach final =
-    let o = open-of p.sound fit top reach final in
-    record { graph = p.sound.graph; fit = fit; methods = methods-of _ p.sound; footing = p.footing; estimated = p.estimated; reach = reach; below = o.below }

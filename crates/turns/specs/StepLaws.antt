@@ -1,6 +1,6 @@
 -- What a turn may rely on at its worker's place, and what makes it a turn.
-use Rattle.std.specs.Prelude.{◌≡◌, refl, ◌⊎◌, List, Option, Some, map, ℕ, ◌+◌, ◌-◌, ◌^◌, ◌≤◌, ◌<◌, length, get_or, set}
-use Rattle.std.proofs.Common.{sym, ap, ◌∙◌, inl, inr, ⊎_elim, add_comm, arith, eq-eqb, ne_eqb, length-take, length-set, pow_mono, get_or-take, get_or-set_same}
+use Rattle.std.specs.Prelude.{◌≡◌, refl, ◌⊎◌, List, Option, Some, map, ℕ, ◌+◌, ◌-◌, ◌^◌, ◌≤◌, ◌<◌, length, get_or}
+use Rattle.std.proofs.Common.{sym, ap, ◌∙◌, inl, inr, ⊎_elim, add_comm, arith, eq-eqb, ne_eqb, length-take, length-set, pow_mono, get_or-take}
 use Rattle.std.proofs.Math.Bool.{true}
 use Rattle.std.proofs.Math.Seq.{slice}
 use Rattle.rules.specs.Limits.{cost_bound}
@@ -41,8 +41,7 @@ use Rattle.pairs.specs.PlaceLaws.{start-mono, start-memo, first-from, memo-insid
 use Rattle.pairs.specs.GroundLaws.{ground-set, at-number}
 use Rattle.results.specs.declared.price.Choice.{Choice}
 use Rattle.results.specs.Prices.{choice_of, Estimates, join_by}
-use Rattle.turns.specs.Standing.{Columns, choice_in, stored, row_in, join_in, top_of, result_at, Board, Ready, pair_at, Handing, StepTaken, TurnTaken}
-use Rattle.crew.specs.Workers.{nobody, worker_at}
+use Rattle.turns.specs.Standing.{Columns, choice_in, stored, row_in, join_in, top_of, result_at, Board, Ready, pair_at, Handing, StepTaken}
 use Rattle.turns.specs.StandingLaws.{row_at, at-smaller}
 
 module _ {g : Graph} {fixed outer inner result sets estimates cells starts cell_starts : List ℕ} {group : Group} {c : Columns} (b : Board g fixed outer inner result sets estimates cells starts cell_starts group c) where
@@ -148,9 +147,9 @@ module _ {g : Graph} {fixed outer inner result sets estimates cells starts cell_
         same w m (inl e) = rw (e, eq-eqb X X refl, D, I) refl
         same w m (inr e) = rw (e, ne_eqb Y X (λ f. apart-differ X Y joined.driving-conn.some joined.joinable.apart (sym f)), D, I, add_comm Y X) (omega arith)
 
-    -- costs of the two can be added
-    pub base-fits : get_or c.costs p.row 0 + get_or c.costs p.inner 0 < cost_bound + cost_bound
-    base-fits = omega (arith, b.below p.row smaller.0, b.below p.inner smaller.1)
+    -- costs of the two are within their limit, so they can be added
+    pub cost-bounds : (get_or c.costs p.row 0 < cost_bound) × (get_or c.costs p.inner 0 < cost_bound)
+    cost-bounds = (b.below p.row smaller.0, b.below p.inner smaller.1)
 
     -- the size that the code computes
     module _ (z : ℕ) (ze : z ≡ result_at group p.size) where
@@ -242,17 +241,6 @@ module _ {g : Graph} {fixed outer inner result : List ℕ} {group : Group} {v v'
 
   pub step-methods : length new.methods ≡ length old.methods
   step-methods = step_kept (λ c. c.methods) (λ r k. length-set old.methods r k.method)
-
--- the worker that is read is ready
-pub ready_read : {g : Graph} {group : Group} (workers : List Worker) (w : ℕ) (v : Worker) → v ≡ worker_at workers w → Ready g group (worker_at workers w) → Ready g group v
-ready_read workers w v e z = rw e z
-
--- one worker's turn, and no other worker moves
-pub turn-of : {g : Graph} {fixed outer inner result : List ℕ} {group : Group} {old new : Columns} {pair : Option code.Handed} (workers : List Worker) (w : ℕ) (v v' : Worker) (workers' : List Worker) → w < length workers
-    → v ≡ worker_at workers w → workers' ≡ set workers w v' → StepTaken g fixed outer inner result group v v' old new pair → TurnTaken g fixed outer inner result group w workers workers' old new pair
-turn-of workers w v v' workers' l i f t =
-    let e : worker_at (set workers w v') w ≡ v' = get_or-set_same workers w v' nobody l in
-    rw f (record { step = rw (e, ← i) t; others = ap (set workers w) (sym e) })
 
 -- the result's size, as the code adds it
 pub sum_is : (d : ℕ) {w i : ℕ} → w ≡ i → d + w ≡ d + i

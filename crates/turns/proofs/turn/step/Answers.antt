@@ -3,7 +3,7 @@ use Rattle.rules.specs.laws.Bools.{not-both}
 use Rattle.pairs.specs.GroundLaws.{at-number}
 use Rattle.pairs.specs.LeftLaws.{some-left}
 use Rattle.pairs.specs.PlaceLaws.{memo-few, met-few}
-use Rattle.turns.specs.StepLaws.{set_at, estimate-at, driving-inside, inner-inside, seek-ready, row_inside, estimates-fit, base-fits, apart, handing, inner-ready-at, sum_is, top-known}
+use Rattle.turns.specs.StepLaws.{set_at, estimate-at, driving-inside, inner-inside, seek-ready, row_inside, estimates-fit, cost-bounds, apart, handing, inner-ready-at, sum_is, top-known}
 use Rattle.turns.specs.Taken.{board-by}
 use Rattle.turns.proofs.turn.step.Goals as goal
 
@@ -103,21 +103,21 @@ offset_bounds-columns-spot-2 c =
     let b = board-by c.args.setting.now c.requires.open in
     let r = c.requires.ready in
     let at = c.in-Some.is in
-    omega (arith, inner-inside b r at, memo-few _ b.graph)
+    omega (arith, driving-inside b r at, inner-inside b r at, memo-few _ b.graph)
 
 pub bounds-columns-spot-2 : goal.bounds-columns-spot-2
 bounds-columns-spot-2 c =
     let b = board-by c.args.setting.now c.requires.open in
     let r = c.requires.ready in
     let at = c.in-Some.is in
-    omega (arith, inner-inside b r at, b.reach.costs)
+    omega (arith, driving-inside b r at, inner-inside b r at, b.reach.costs)
 
 pub overflow_add-base : goal.overflow_add-base
 overflow_add-base c =
     let b = board-by c.args.setting.now c.requires.open in
     let r = c.requires.ready in
     let at = c.in-Some.is in
-    omega (arith, base-fits b r at)
+    omega (arith, cost-bounds b r at)
 
 pub offset_bounds-setting-row : goal.offset_bounds-setting-row
 offset_bounds-setting-row c =
@@ -145,7 +145,7 @@ price-choice-requires-clause-base_bound c =
     let b = board-by c.args.setting.now c.requires.open in
     let r = c.requires.ready in
     let at = c.in-Some.is in
-    base-fits b r at
+    omega (arith, cost-bounds b r at)
 
 pub price-choice-requires-clause-different : goal.price-choice-requires-clause-different
 price-choice-requires-clause-different c =
@@ -160,7 +160,8 @@ keep-cost-requires c =
     let r = c.requires.ready in
     let at = c.in-Some.is in
     let l = row_inside b r at _ (sum_is c.in-Some.spot.size c.inner_at.ensures) _ c.seek-row.ensures in
-    (omega (arith, l, b.reach.costs), omega (arith, l, b.reach.outers), omega (arith, l, b.reach.methods))
+    let d = driving-inside b r at in
+    (omega (arith, l, d, b.reach.costs), omega (arith, l, d, b.reach.outers), omega (arith, l, d, b.reach.methods))
 
 pub next_pair-next-requires-clause-at : goal.next_pair-next-requires-clause-at
 next_pair-next-requires-clause-at c =
