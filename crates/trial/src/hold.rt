@@ -140,17 +140,13 @@ fn planned<'a>(memo: &'a Memo, log: &'a [Entry]) -> Expected<'a> {
     let rows = memo.rows.as_slice();
     let skips = memo.skips.as_slice();
     Expected {
-        answer: Numbers {
-            shared: [
-                0,
-                0,
-                memo.best(),
-                rows.len() as u64,
-                skips.len() as u64,
-                log.len() as u64,
-            ],
-            counts: counts(log),
-        },
+        answer: Numbers::of_plan(
+            memo.best(),
+            rows.len() as u64,
+            skips.len() as u64,
+            log.len() as u64,
+            counts(log),
+        ),
         rows,
         skips,
         log,
@@ -159,10 +155,7 @@ fn planned<'a>(memo: &'a Memo, log: &'a [Entry]) -> Expected<'a> {
 
 fn refused_plan<'a>(refusal: Refused) -> Expected<'a> {
     Expected {
-        answer: Numbers {
-            shared: [refusal as u64, 0, 0, 0, 0, 0],
-            counts: [0; 8],
-        },
+        answer: Numbers::of_refusal(refusal as u64, 0),
         rows: &[],
         skips: &[],
         log: &[],
