@@ -81,7 +81,7 @@ fn one_crew(
     crew: &Crew,
 ) -> Result<Kept, AllocError> {
     let log = query.play(alloc, crew)?;
-    let kept = plan_kept(alloc, query.memo.query(), crew, LENT)?;
+    let kept = plan_kept(alloc, &query.memo.query, crew, LENT)?;
     tally.plans = tally.plans.saturating_add(1);
     tally.test_log(&kept, &log);
     Ok(kept)

@@ -313,7 +313,7 @@ impl Enumerated {
     }
 
     pub fn play(&self, alloc: Global, crew: &Crew) -> Result<Vec<Entry>, AllocError> {
-        play(alloc, self.memo.query().tables.len(), &self.sizes, crew)
+        play(alloc, self.memo.query.tables.len(), &self.sizes, crew)
     }
 }
 
@@ -327,7 +327,7 @@ fn one_crew(
     let crew = any_crew(alloc, random)?;
     let log = query.play(alloc, &crew)?;
     let lent = draw_lent(random, &query.memo, log.len());
-    let kept = plan_kept(alloc, query.memo.query(), &crew, lent)?;
+    let kept = plan_kept(alloc, &query.memo.query, &crew, lent)?;
     tally.plans = tally.plans.saturating_add(1);
     match refusal(&query.memo, lent) {
         Some(refusal) => {

@@ -77,7 +77,7 @@ impl Candidates {
         inner_rows: &[Row],
     ) -> Result<(), AllocError> {
         for (place, inner) in inner_rows.iter().enumerate() {
-            if memo.query().divisors.join(&driving.group, &inner.group) {
+            if memo.query.divisors.join(&driving.group, &inner.group) {
                 let parts = driving.cost.saturating_add(inner.cost);
                 if let Some(join) = memo.priced(driving.side(), inner.side(), parts) {
                     self.joinable.push(Pair {
