@@ -21,10 +21,10 @@ pub struct Join {
 }
 
 // The lower of what is found so far and what is found next.
-fn lower<T: Ord + Copy>(so_far: Option<T>, next: T) -> Option<T> {
+pub fn lower<T: Ord + Copy>(so_far: Option<T>, next: T) -> T {
     match so_far {
-        Some(least) => Some(least.min(next)),
-        None => Some(next),
+        Some(least) => least.min(next),
+        None => next,
     }
 }
 
@@ -146,14 +146,12 @@ impl Memo {
         for (k, method) in self.query.methods.iter().enumerate() {
             for (outer, inner) in [(x, y), (y, x)] {
                 let own = own_cost(method, outer.estimate, inner.estimate, joined);
-                best = lower(
-                    best,
-                    Join {
-                        cost: parts.saturating_add(own),
-                        outer: outer.set,
-                        method: k as u64 + 1,
-                    },
-                );
+                let join = Join {
+                    cost: parts.saturating_add(own),
+                    outer: outer.set,
+                    method: k as u64 + 1,
+                };
+                best = Some(lower(best, join));
             }
         }
         best
@@ -198,7 +196,7 @@ impl Memo {
             let (a, b) = group.split(digits);
             if let Some((x, y)) = self.sides(&a, &b) {
                 let parts = cost(&a)?.saturating_add(cost(&b)?);
-                best = lower(best, self.priced(x, y, parts)?);
+                best = Some(lower(best, self.priced(x, y, parts)?));
             }
         }
         best

@@ -2,7 +2,7 @@
 ghost use Rattle.std.specs.Prelude.{◌≤◌};
 
 use super::by_set::BySet;
-use super::enumerate::{Memo, Row};
+use super::enumerate::{Memo, Row, lower};
 use super::input::{Crew, Scheme};
 use std::alloc::{AllocError, Global};
 use std::slice;
@@ -146,10 +146,7 @@ impl Game<'_> {
 
     fn take(&mut self, worker: usize, pair: Pair) -> Result<(), AllocError> {
         let set = pair.driving | pair.inner;
-        let cost = match self.standing.of(set) {
-            Some(least) => least.min(pair.cost),
-            None => pair.cost,
-        };
+        let cost = lower(self.standing.of(set), pair.cost);
         self.standing.put(set, cost);
         self.log.push(Entry {
             worker: worker as u64,
