@@ -119,12 +119,13 @@ fn estimate(query: &Query, group: &Group) -> u64 {
 
 impl Memo {
     pub fn of(alloc: Global, query: Query) -> Result<Memo, AllocError> {
-        let n = query.tables.len();
         let sets = connected_sets(alloc, &query)?;
+        let estimates = BySet::none(alloc, &query)?;
+        let costs = BySet::none(alloc, &query)?;
         let mut memo = Memo {
             query,
-            estimates: BySet::none(alloc, n)?,
-            costs: BySet::none(alloc, n)?,
+            estimates,
+            costs,
             rows: Vec::with_capacity(alloc, sets.len())?,
             skips: Vec::new(alloc),
         };

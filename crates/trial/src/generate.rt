@@ -123,6 +123,8 @@ impl Graph {
     }
 }
 
+// Here `n` is a plain number: the query, whose ghost field bounds it, is made last of all.
+
 // The first `n` tables in any order.
 fn shuffled(random: &mut Random, n: usize) -> [usize; MOST_TABLES]
     requires { n ≤ 16 }

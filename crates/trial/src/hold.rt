@@ -214,7 +214,7 @@ impl Enumerated {
     }
 
     pub fn play(&self, alloc: Global, crew: &Crew) -> Result<Vec<Entry>, AllocError> {
-        play(alloc, self.memo.query.tables.len(), &self.sizes, crew)
+        play(alloc, &self.memo.query, &self.sizes, crew)
     }
 }
 

@@ -1,9 +1,7 @@
 // The turns, played on lists of all joinable pairs of a size with their workers.
-ghost use Rattle.std.specs.Prelude.{◌≤◌};
-
 use super::by_set::BySet;
 use super::enumerate::{Memo, Row, lower};
-use super::input::{Crew, Scheme};
+use super::input::{Crew, Query, Scheme};
 use std::alloc::{AllocError, Global};
 use std::slice;
 
@@ -183,14 +181,12 @@ impl Game<'_> {
 // The log of all turns, over the candidates of the sizes from two on.
 pub fn play(
     alloc: Global,
-    tables: usize,
+    query: &Query,
     sizes: &[Candidates],
     crew: &Crew,
-) -> Result<Vec<Entry>, AllocError>
-    requires { tables ≤ 16 }
-{
+) -> Result<Vec<Entry>, AllocError> {
     let mut game = Game {
-        standing: BySet::none(alloc, tables)?,
+        standing: BySet::none(alloc, query)?,
         log: Vec::new(alloc),
         turns: crew.turns.iter(),
     };
