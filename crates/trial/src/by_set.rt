@@ -1,6 +1,5 @@
-// A number for each set of some tables that has one, by the set's number.
-ghost use Rattle.std.specs.Prelude.{◌≤◌};
-
+// A number for each set of a query's tables that has one, by the set's number.
+use super::input::Query;
 use std::alloc::{AllocError, Global};
 
 #[derive(Drop)]
@@ -9,11 +8,9 @@ pub struct BySet {
 }
 
 impl BySet {
-    pub fn none(alloc: Global, tables: usize) -> Result<BySet, AllocError>
-        requires { tables ≤ 16 }
-    {
+    pub fn none(alloc: Global, query: &Query) -> Result<BySet, AllocError> {
         Ok(BySet {
-            cells: vec![in alloc; None; 1usize << tables]?,
+            cells: vec![in alloc; None; 1usize << query.tables.len()]?,
         })
     }
 

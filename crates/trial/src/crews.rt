@@ -1,7 +1,8 @@
 // Queries that are planned by twelve crews each. The first crew is one worker with no list of turns: answer, memo and skip vectors of
 // each crew are held to its, and each log to the turns that are played.
+use super::compare::apart;
 use super::generate::{draw_crew, listed};
-use super::hold::{Enumerated, apart};
+use super::hold::Enumerated;
 use super::input::{Crew, Scheme};
 use super::plan_in::{Kept, Lent, plan_kept};
 use super::play::{Entry, counts};
@@ -81,7 +82,7 @@ fn one_crew(
     crew: &Crew,
 ) -> Result<Kept, AllocError> {
     let log = query.play(alloc, crew)?;
-    let kept = plan_kept(alloc, query.memo.query(), crew, LENT)?;
+    let kept = plan_kept(alloc, &query.memo.query, crew, LENT)?;
     tally.plans = tally.plans.saturating_add(1);
     tally.test_log(&kept, &log);
     Ok(kept)

@@ -21,10 +21,10 @@ pub struct Join {
 }
 
 // The lower of what is found so far and what is found next.
-fn lower<T: Ord + Copy>(so_far: Option<T>, next: T) -> Option<T> {
+pub fn lower<T: Ord + Copy>(so_far: Option<T>, next: T) -> T {
     match so_far {
-        Some(least) => Some(least.min(next)),
-        None => Some(next),
+        Some(least) => least.min(next),
+        None => next,
     }
 }
 
@@ -58,7 +58,7 @@ impl Row {
 
 #[derive(Drop)]
 pub struct Memo {
-    query: Query,
+    pub query: Query,
     estimates: BySet,
     costs: BySet,
     pub rows: Vec<Row>,
@@ -119,12 +119,13 @@ fn estimate(query: &Query, group: &Group) -> u64 {
 
 impl Memo {
     pub fn of(alloc: Global, query: Query) -> Result<Memo, AllocError> {
-        let n = query.tables.len();
         let sets = connected_sets(alloc, &query)?;
+        let estimates = BySet::none(alloc, &query)?;
+        let costs = BySet::none(alloc, &query)?;
         let mut memo = Memo {
             query,
-            estimates: BySet::none(alloc, n)?,
-            costs: BySet::none(alloc, n)?,
+            estimates,
+            costs,
             rows: Vec::with_capacity(alloc, sets.len())?,
             skips: Vec::new(alloc),
         };
@@ -139,10 +140,6 @@ impl Memo {
         Ok(memo)
     }
 
-    pub fn query(&self) -> &Query {
-        &self.query
-    }
-
     // The best join of two disjoint sets, either of them as the outer one, where they together cost `parts`.
     pub fn priced(&self, x: Side, y: Side, parts: u64) -> Option<Join> {
         let joined = self.estimates.of(x.set | y.set)?;
@@ -150,14 +147,12 @@ impl Memo {
         for (k, method) in self.query.methods.iter().enumerate() {
             for (outer, inner) in [(x, y), (y, x)] {
                 let own = own_cost(method, outer.estimate, inner.estimate, joined);
-                best = lower(
-                    best,
-                    Join {
-                        cost: parts.saturating_add(own),
-                        outer: outer.set,
-                        method: k as u64 + 1,
-                    },
-                );
+                let join = Join {
+                    cost: parts.saturating_add(own),
+                    outer: outer.set,
+                    method: k as u64 + 1,
+                };
+                best = Some(lower(best, join));
             }
         }
         best
@@ -193,42 +188,32 @@ impl Memo {
         None
     }
 
+    // The best join of two parts of a group, where a part costs what `cost` says.
+    fn best_join<F: Fn(&Group) -> Option<u64>>(&self, group: &Group, cost: F) -> Option<Join>
+        requires { F.IsAlwaysCallable cost }
+    {
+        let mut best = None;
+        for digits in 1..group.half() {
+            let (a, b) = group.split(digits);
+            if let Some((x, y)) = self.sides(&a, &b) {
+                let parts = cost(&a)?.saturating_add(cost(&b)?);
+                best = Some(lower(best, self.priced(x, y, parts)?));
+            }
+        }
+        best
+    }
+
     // The least cost over all trees of a group of at most `fuel` tables.
     fn cheapest(&self, group: &Group, fuel: usize) -> Option<u64> {
         if fuel == 0 {
             return None;
         }
+        if let Some(scan) = self.scan(group) {
+            return Some(scan);
+        }
         let fewer = fuel - 1;
-        let mut best = self.scan(group);
-        for digits in 1..group.half() {
-            let (a, b) = group.split(digits);
-            if let Some((x, y)) = self.sides(&a, &b) {
-                let parts = self
-                    .cheapest(&a, fewer)?
-                    .saturating_add(self.cheapest(&b, fewer)?);
-                best = lower(best, self.priced(x, y, parts)?.cost);
-            }
-        }
-        best
-    }
-
-    // The best of the joins of two parts of a group, with best parts.
-    fn best_of_split(&self, a: &Group, b: &Group) -> Option<Join> {
-        let (x, y) = self.sides(a, b)?;
-        let parts = self.costs.of(x.set)?.saturating_add(self.costs.of(y.set)?);
-        self.priced(x, y, parts)
-    }
-
-    // The best of all joins that a group's trees end in.
-    fn best_join(&self, group: &Group) -> Option<Join> {
-        let mut best = None;
-        for digits in 1..group.half() {
-            let (a, b) = group.split(digits);
-            if let Some(join) = self.best_of_split(&a, &b) {
-                best = lower(best, join);
-            }
-        }
-        best
+        let join = self.best_join(group, |part| self.cheapest(part, fewer))?;
+        Some(join.cost)
     }
 
     // A row's cost: of one table its scan; by all trees; or by splits.
@@ -242,7 +227,7 @@ impl Memo {
     // The row of a connected set; those of its parts stand before it.
     fn row(&self, group: &Group) -> Option<Row> {
         let Side { set, estimate } = self.side(group)?;
-        let join = self.best_join(group);
+        let join = self.best_join(group, |part| self.costs.of(part.number()));
         Some(Row {
             group: *group,
             size: group.count(),

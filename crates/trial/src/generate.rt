@@ -1,5 +1,6 @@
 // Queries and crews, drawn by a generator with a seed.
 ghost use Rattle.std.specs.Prelude.{◌<◌, ◌≤◌};
+ghost use Rattle.std.specs.List.{All};
 
 use super::group::MOST_TABLES;
 use super::input::{Crew, Divisors, Edge, Method, Query, Scheme, Table};
@@ -122,15 +123,16 @@ impl Graph {
     }
 }
 
-// The tables in any order.
+// Here `n` is a plain number: the query, whose ghost field bounds it, is made last of all.
+
+// The first `n` tables in any order.
 fn shuffled(random: &mut Random, n: usize) -> [usize; MOST_TABLES]
     requires { n ≤ 16 }
+    ensures { All (λ t. t < 16) result }
 {
-    let mut order = [0usize; MOST_TABLES];
+    let mut order = [0, 1, 2, 3, 4, 5, 6, 7, 8, 9, 10, 11, 12, 13, 14, 15];
     for i in 0..n {
-        let j = random.up_to(i as u64) as usize;
-        order[i] = order[j];
-        order[j] = i;
+        order.swap(i, random.up_to(i as u64) as usize);
     }
     order
 }
@@ -205,10 +207,7 @@ pub fn draw_query(alloc: Global, random: &mut Random, n: usize) -> Result<Query,
         |method, per_row| method.result = per_row,
     );
     let edges = draw_edges(alloc, random, n)?;
-    let mut divisors = Divisors::none();
-    for edge in edges.iter() {
-        divisors.put(*edge);
-    }
+    let divisors = Divisors::new(&edges);
     Ok(Query {
         tables,
         methods,

@@ -8,6 +8,7 @@ pub struct Group {
     flags: [bool; MOST_TABLES],
 }
 
+// No type for a table's number below 16: `for t in 0..MOST_TABLES` gives just that, and a type would be made and opened at each use.
 impl Group {
     pub fn has(&self, table: usize) -> bool
         requires { table < 16 }

@@ -1,14 +1,14 @@
 // Plans each query under its crews and holds what planning left to the enumeration.
 ghost use Rattle.std.specs.Prelude.{◌<◌, ◌≤◌};
 
+use super::compare::{Compared, Tally};
 use super::enumerate::{Memo, Row};
 use super::generate::{draw_crew, draw_query, listed};
 use super::input::{Crew, Scheme};
-use super::plan_in::{Kept, Lent, MARK, Memory, Numbers, plan_kept};
+use super::plan_in::{Kept, Lent, Memory, Numbers, plan_kept};
 use super::play::{Candidates, Entry, counts, play};
 use super::random::Random;
 use std::alloc::{AllocError, Global};
-use std::fmt;
 
 const QUERIES: u64 = 20_480;
 
@@ -20,105 +20,6 @@ const MOST_LENT: Lent = Lent {
     cells: 3072,
     log: 2048,
 };
-
-// What is compared.
-#[derive(Clone, Copy)]
-pub enum Compared {
-    Answers,
-    Sets,
-    Estimates,
-    Costs,
-    Outers,
-    Methods,
-    SkipCells,
-    LogWorkers,
-    LogDriving,
-    LogInner,
-    LogCosts,
-}
-
-pub const ALL_COMPARED: [Compared; 11] = [
-    Compared::Answers,
-    Compared::Sets,
-    Compared::Estimates,
-    Compared::Costs,
-    Compared::Outers,
-    Compared::Methods,
-    Compared::SkipCells,
-    Compared::LogWorkers,
-    Compared::LogDriving,
-    Compared::LogInner,
-    Compared::LogCosts,
-];
-
-impl fmt::Display for Compared {
-    fn fmt<W: fmt::Write>(&self, f: &mut fmt::Formatter<W>) -> fmt::Result {
-        f.write_str(match self {
-            Compared::Answers => "answers",
-            Compared::Sets => "sets",
-            Compared::Estimates => "estimates",
-            Compared::Costs => "costs",
-            Compared::Outers => "outers",
-            Compared::Methods => "methods",
-            Compared::SkipCells => "skip cells",
-            Compared::LogWorkers => "log workers",
-            Compared::LogDriving => "log driving sets",
-            Compared::LogInner => "log inner sets",
-            Compared::LogCosts => "log costs",
-        })
-    }
-}
-
-#[derive(Clone, Copy, Default)]
-pub struct Tally {
-    pub queries: u64,
-    pub plans: u64,
-    pub refused: u64,
-    pub comparisons: u64,
-    pub differences: u64,
-    compared: [u64; 11],
-}
-
-impl Tally {
-    pub fn of(&self, what: Compared) -> u64 {
-        self.compared[what as usize]
-    }
-
-    // Counts the comparisons of a column.
-    fn hold<T, F: Fn(&T) -> u64>(
-        &mut self,
-        what: Compared,
-        column: &[u64],
-        records: &[T],
-        number: F,
-    )
-        requires { F.IsAlwaysCallable number }
-    {
-        let cells = column.len() as u64;
-        self.compared[what as usize] = self.compared[what as usize].saturating_add(cells);
-        self.comparisons = self.comparisons.saturating_add(cells);
-        self.differences = self
-            .differences
-            .saturating_add(apart(column, records, number));
-    }
-}
-
-// In how many cells a column differs from what must be in it: a number of each record, and then marks.
-pub fn apart<T, F: Fn(&T) -> u64>(column: &[u64], records: &[T], number: F) -> u64
-    requires { F.IsAlwaysCallable number }
-{
-    let mut found = 0u64;
-    for (i, cell) in column.iter().enumerate() {
-        let expected = match records.get(i) {
-            Some(record) => number(record),
-            None => MARK,
-        };
-        if *cell != expected {
-            found = found.saturating_add(1);
-        }
-    }
-    found
-}
 
 // The refusals of too little memory.
 #[derive(Clone, Copy)]
@@ -140,17 +41,13 @@ fn planned<'a>(memo: &'a Memo, log: &'a [Entry]) -> Expected<'a> {
     let rows = memo.rows.as_slice();
     let skips = memo.skips.as_slice();
     Expected {
-        answer: Numbers {
-            shared: [
-                0,
-                0,
-                memo.best(),
-                rows.len() as u64,
-                skips.len() as u64,
-                log.len() as u64,
-            ],
-            counts: counts(log),
-        },
+        answer: Numbers::of_plan(
+            memo.best(),
+            rows.len() as u64,
+            skips.len() as u64,
+            log.len() as u64,
+            counts(log),
+        ),
         rows,
         skips,
         log,
@@ -159,10 +56,7 @@ fn planned<'a>(memo: &'a Memo, log: &'a [Entry]) -> Expected<'a> {
 
 fn refused_plan<'a>(refusal: Refused) -> Expected<'a> {
     Expected {
-        answer: Numbers {
-            shared: [refusal as u64, 0, 0, 0, 0, 0],
-            counts: [0; 8],
-        },
+        answer: Numbers::of_refusal(refusal as u64, 0),
         rows: &[],
         skips: &[],
         log: &[],
@@ -320,7 +214,7 @@ impl Enumerated {
     }
 
     pub fn play(&self, alloc: Global, crew: &Crew) -> Result<Vec<Entry>, AllocError> {
-        play(alloc, self.memo.query().tables.len(), &self.sizes, crew)
+        play(alloc, &self.memo.query, &self.sizes, crew)
     }
 }
 
@@ -334,7 +228,7 @@ fn one_crew(
     let crew = any_crew(alloc, random)?;
     let log = query.play(alloc, &crew)?;
     let lent = draw_lent(random, &query.memo, log.len());
-    let kept = plan_kept(alloc, query.memo.query(), &crew, lent)?;
+    let kept = plan_kept(alloc, &query.memo.query, &crew, lent)?;
     tally.plans = tally.plans.saturating_add(1);
     match refusal(&query.memo, lent) {
         Some(refusal) => {

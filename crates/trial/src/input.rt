@@ -22,6 +22,8 @@ pub struct Edge {
     pub left: usize,
     pub right: usize,
     pub divisor: u64,
+    ghost left_known: { left < 16 },
+    ghost right_known: { right < 16 },
 }
 
 #[derive(Drop)]
@@ -40,17 +42,13 @@ pub struct Divisors {
 }
 
 impl Divisors {
-    pub fn none() -> Divisors {
-        Divisors {
-            cells: [[None; MOST_TABLES]; MOST_TABLES],
+    pub fn new(edges: &[Edge]) -> Divisors {
+        let mut cells = [[None; MOST_TABLES]; MOST_TABLES];
+        for edge in edges {
+            cells[edge.left][edge.right] = Some(edge.divisor);
+            cells[edge.right][edge.left] = Some(edge.divisor);
         }
-    }
-
-    pub fn put(&mut self, edge: Edge) {
-        if edge.left < MOST_TABLES && edge.right < MOST_TABLES {
-            self.cells[edge.left][edge.right] = Some(edge.divisor);
-            self.cells[edge.right][edge.left] = Some(edge.divisor);
-        }
+        Divisors { cells }
     }
 
     pub fn of(&self, a: usize, b: usize) -> Option<u64>

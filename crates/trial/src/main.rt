@@ -3,6 +3,7 @@
 #![tactic(auto)]
 
 mod by_set;
+mod compare;
 mod crews;
 mod enumerate;
 mod generate;
@@ -16,11 +17,11 @@ mod random;
 use random::Random;
 use std::io;
 
-fn report(rt: &impl Print, tally: &hold::Tally) -> io::Result<()> {
+fn report(rt: &impl Print, tally: &compare::Tally) -> io::Result<()> {
     println!(rt; "queries {}", tally.queries)?;
     println!(rt; "plans {}", tally.plans)?;
     println!(rt; "refused {}", tally.refused)?;
-    for what in hold::ALL_COMPARED {
+    for what in compare::ALL_COMPARED {
         println!(rt; "{} {}", what, tally.of(what))?;
     }
     println!(rt; "comparisons {}", tally.comparisons)?;

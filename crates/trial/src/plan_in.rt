@@ -60,6 +60,22 @@ impl Memory {
     }
 }
 
+impl Numbers {
+    pub fn of_plan(best: u64, rows: u64, cells: u64, pairs: u64, counts: [u64; 8]) -> Numbers {
+        Numbers {
+            shared: [0, 0, best, rows, cells, pairs],
+            counts,
+        }
+    }
+
+    pub fn of_refusal(number: u64, place: u64) -> Numbers {
+        Numbers {
+            shared: [number, place, 0, 0, 0, 0],
+            counts: [0; 8],
+        }
+    }
+}
+
 fn numbers_of(answer: Answer) -> Numbers {
     let shared = [
         answer.refusal,
@@ -96,16 +112,8 @@ pub fn plan_kept(
 ) -> Result<Kept, AllocError> {
     let rows = column(alloc, &query.tables, |table| table.rows)?;
     let scans = column(alloc, &query.tables, |table| table.scan)?;
-    let left = column(
-        alloc,
-        &query.edges,
-        |edge| edge.left.saturating_add(1) as u64,
-    )?;
-    let right = column(
-        alloc,
-        &query.edges,
-        |edge| edge.right.saturating_add(1) as u64,
-    )?;
+    let left = column(alloc, &query.edges, |edge| edge.left as u64 + 1)?;
+    let right = column(alloc, &query.edges, |edge| edge.right as u64 + 1)?;
     let divisors = column(alloc, &query.edges, |edge| edge.divisor)?;
     let fixed = column(alloc, &query.methods, |method| method.fixed)?;
     let outer = column(alloc, &query.methods, |method| method.outer)?;

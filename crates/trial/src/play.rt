@@ -1,9 +1,7 @@
 // The turns, played on lists of all joinable pairs of a size with their workers.
-ghost use Rattle.std.specs.Prelude.{◌≤◌};
-
 use super::by_set::BySet;
-use super::enumerate::{Memo, Row};
-use super::input::{Crew, Scheme};
+use super::enumerate::{Memo, Row, lower};
+use super::input::{Crew, Query, Scheme};
 use std::alloc::{AllocError, Global};
 use std::slice;
 
@@ -77,7 +75,7 @@ impl Candidates {
         inner_rows: &[Row],
     ) -> Result<(), AllocError> {
         for (place, inner) in inner_rows.iter().enumerate() {
-            if memo.query().divisors.join(&driving.group, &inner.group) {
+            if memo.query.divisors.join(&driving.group, &inner.group) {
                 let parts = driving.cost.saturating_add(inner.cost);
                 if let Some(join) = memo.priced(driving.side(), inner.side(), parts) {
                     self.joinable.push(Pair {
@@ -146,10 +144,7 @@ impl Game<'_> {
 
     fn take(&mut self, worker: usize, pair: Pair) -> Result<(), AllocError> {
         let set = pair.driving | pair.inner;
-        let cost = match self.standing.of(set) {
-            Some(least) => least.min(pair.cost),
-            None => pair.cost,
-        };
+        let cost = lower(self.standing.of(set), pair.cost);
         self.standing.put(set, cost);
         self.log.push(Entry {
             worker: worker as u64,
@@ -186,14 +181,12 @@ impl Game<'_> {
 // The log of all turns, over the candidates of the sizes from two on.
 pub fn play(
     alloc: Global,
-    tables: usize,
+    query: &Query,
     sizes: &[Candidates],
     crew: &Crew,
-) -> Result<Vec<Entry>, AllocError>
-    requires { tables ≤ 16 }
-{
+) -> Result<Vec<Entry>, AllocError> {
     let mut game = Game {
-        standing: BySet::none(alloc, tables)?,
+        standing: BySet::none(alloc, query)?,
         log: Vec::new(alloc),
         turns: crew.turns.iter(),
     };
