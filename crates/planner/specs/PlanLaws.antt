@@ -1,6 +1,6 @@
 -- From the checks, laying out and the search to the one promise of planning.
 use Rattle.std.specs.Prelude.{◌≡◌, refl, Bool, true, false, cond, eqb, ltb, length, get_or, replicate}
-use Rattle.std.proofs.Common.{sym, ap, ◌∙◌, arith, pow_pos, eq-eqb, ne_eqb, Fits}
+use Rattle.std.proofs.Common.{sym, ap, subst, ◌∙◌, arith, pow_pos, eq-eqb, ne_eqb, Fits}
 use mathlib.Core.List.{List, [], ◌∷◌, ◌++◌, map, Memᴰ}
 use Prim.Native.Nat.{ℕ, zero, suc, ◌+◌, ◌-◌, ◌*◌, ◌/◌, ◌^◌, ◌≤◌, ◌<◌}
 use Rattle.std.proofs.Math.Decide.{dec_lt, ℕ_discrete}
@@ -11,7 +11,8 @@ use Rattle.rules.specs.declared.Crew.{Crew}
 use Rattle.rules.specs.Verdict.{Verdict, told}
 use Rattle.rules.specs.Kinds.{new_crew}
 use Rattle.rules.specs.Sets.{size, full}
-use Rattle.rules.specs.Query.{Graph, table_count}
+use Rattle.rules.specs.Query.{Graph, Query, table_count}
+use Rattle.rules.specs.Schedule.{Schedule}
 use Rattle.rules.specs.Connected.{Connected}
 use Rattle.rules.specs.Estimate.{estimate}
 use Rattle.rules.specs.Rows.{rows_of, memo}
@@ -27,11 +28,12 @@ use Rattle.rules.specs.laws.Kinds.{crew-workers}
 use Rattle.rules.specs.laws.Refusals.{checked, crew-named}
 use Rattle.memo.specs.declared.layout.Laid.{Laid}
 use Rattle.skips.specs.Vectors.{written}
-use Rattle.memo.specs.Layout.{Lent, lent_of, OneLength, Room, laid, refusal_of, counts, LaidOut}
+use Rattle.memo.specs.Layout.{Lent, lent, lent_of, OneLength, Room, laid, refusal_of, counts, LaidOut}
 use Rattle.memo.specs.LayoutLaws.{laid-verdict, written_over, front}
-use Rattle.turns.specs.Standing.{columns}
-use Rattle.turns.specs.StartLaws.{estimated-of}
+use Rattle.turns.specs.Standing.{Columns, columns}
+use Rattle.turns.specs.StartLaws.{estimated-of, methods-of}
 use Rattle.pairs.specs.Places.{start_of}
+use Rattle.results.specs.Prices.{Methods}
 use Rattle.pairs.specs.PlaceLaws.{start-next, start-end, in_size, memo-row, memo-few}
 use Rattle.shares.specs.Shares.{few}
 use Rattle.planner.specs.declared.Answer.{Answer}
@@ -88,6 +90,13 @@ lay-ready i e =
     let c = checked i e in
     (c.sound.graph, record { estimates = c.columns.estimates; costs = c.columns.costs; outers = c.columns.outers; methods = c.columns.methods })
 
+-- the methods and the log that a search is given
+pub rates-ready : (i : Input) → (first_of (checks i)).number ≡ 0 → Methods i.query.fixed i.query.per_outer i.query.per_inner i.query.per_result
+rates-ready i e = methods-of i.query (checked i e).sound
+
+pub log-fits : (i : Input) → (first_of (checks i)).number ≡ 0 → LogFits (log_of i.lent.log_workers i.lent.log_driving i.lent.log_inner i.lent.log_costs)
+log-fits i e = let c = checked i e in record { driving = c.columns.driving; inner = c.columns.inner; costs = c.columns.log-costs }
+
 -- laying out changes no length
 pub record SameLengths (old new : Lent) : Type 0 where
   pub sets : length new.sets ≡ length old.sets
@@ -143,6 +152,27 @@ planned-rooms i r {new = new} e z l =
     unchanged (yes h) d = (z.refused13 h).1
     unchanged (no h) (yes k) = (z.refused14 (omega arith) k).1
     unchanged (no h) (no k) = absurd (some-number r.reason (ap refusal_of (z.given (record { rows = omega arith; cells = omega arith })).0))
+
+-- ---- lists that are what the code has of them
+-- what laying out left, by its columns
+pub relaid : {g : Graph} {old new : Lent} {r : Result Laid Refusal} {sets estimates costs outers methods skips : List ℕ}
+    → sets ≡ new.sets → estimates ≡ new.estimates → costs ≡ new.costs → outers ≡ new.outers → methods ≡ new.methods → skips ≡ new.skips
+    → LaidOut g old new r → LaidOut g old (lent sets estimates costs outers methods skips) r
+relaid {g} {old} {new} {r} s e c o m k z =
+    let same : new ≡ lent _ _ _ _ _ _ = λ t. lent (sym s t) (sym e t) (sym c t) (sym o t) (sym m t) (sym k t) in
+    subst (λ (l : Lent). LaidOut g old l r) same z
+
+-- what a search left, by its columns and its log's
+pub redone : {q : Query} {crew : Crew} {groups : Schedule} {turns : List ℕ} {old new : Columns} {was : Memory} {pairs : ℕ} {counts costs outers methods workers workers' driving driving' inner inner' noted noted' : List ℕ}
+    → costs ≡ new.costs → outers ≡ new.outers → methods ≡ new.methods
+    → workers ≡ workers' → driving ≡ driving' → inner ≡ inner' → noted ≡ noted'
+    → SearchDone q crew groups turns old new was (log_of workers' driving' inner' noted') pairs counts
+    → SearchDone q crew groups turns old (columns costs outers methods) was (log_of workers driving inner noted) pairs counts
+redone {q} {crew} {groups} {turns} {old} {new} {was} {pairs} {counts} {costs = costs} {outers = outers} {methods = methods} {workers' = workers'} {driving' = driving'} {inner' = inner'} {noted' = noted'} c o m w d i n z =
+    let filled : new ≡ columns costs outers methods = λ t. columns (sym c t) (sym o t) (sym m t) in
+    let logged : log_of workers' driving' inner' noted' ≡ log_of _ _ _ _ = λ t. log_of (sym w t) (sym d t) (sym i t) (sym n t) in
+    subst (λ (l : Memory). SearchDone q crew groups turns old (columns costs outers methods) was l pairs counts) logged
+    (subst (λ (x : Columns). SearchDone q crew groups turns old x was (log_of workers' driving' inner' noted') pairs counts) filled z)
 
 -- ---- a plan
 -- laid out: what was lent has room
@@ -206,10 +236,6 @@ module _ (i : Input) (e : (first_of (checks i)).number ≡ 0) {new : Lent} {l : 
   unfolding zeros
   zeros-fit = let z : ℕ = 0 in omega (arith, length-replicate (length (memo i.query.graph)) z)
 
-  -- the log has its lengths
-  pub log-fits : LogFits (log_of i.lent.log_workers i.lent.log_driving i.lent.log_inner i.lent.log_costs)
-  log-fits = record { driving = good.columns.driving; inner = good.columns.inner; costs = good.columns.log-costs }
-
   -- the search may begin
   pub search-ready : {crew : Crew} → new_crew i.workers i.scheme ≡ Some crew → SearchReady i.query crew i.turns new.sets new.estimates new.skips (columns new.costs new.outers new.methods) (log_of i.lent.log_workers i.lent.log_driving i.lent.log_inner i.lent.log_costs)
   search-ready {crew} named = record {
@@ -229,7 +255,7 @@ module _ (i : Input) (e : (first_of (checks i)).number ≡ 0) {new : Lent} {l : 
     costs-laid = ap (λ (x : Lent). x.costs) is-laid;
     outers-laid = ap (λ (x : Lent). x.outers) is-laid;
     methods-laid = ap (λ (x : Lent). x.methods) is-laid;
-    log-fits = log-fits;
+    log-fits = log-fits i e;
   }
     where
       workers : crew.workers ≡ i.workers

@@ -1,13 +1,9 @@
 // The library's entry: checks, laying out, the turns in a row, the answer.
 #![tactic(auto)]
 
-ghost use Rattle.std.specs.Prelude.{ℕ};
 ghost use Rattle.rules.specs.Answers.{Planned};
 ghost use Rattle.query.specs.Lists.{query_of};
-ghost use Rattle.memo.specs.Layout.{held, SameLists};
-ghost use Rattle.crew.specs.Lent.{SameColumns};
-ghost use Rattle.crew.specs.Lent.{memory_of as logged};
-ghost use Rattle.planner.specs.Plans.{memory_of, memory_in, input_of, input_by, outcome_of, Passed};
+ghost use Rattle.planner.specs.Plans.{memory_of, input_of, outcome_of};
 
 use crew::log::Log;
 use memo::layout::lay_out;
@@ -18,7 +14,6 @@ use refusals::{Lengths, check};
 use results::keep::Columns;
 use results::price::Rates;
 use rows::tally::{Tally, count_rows};
-use rules::Crew;
 use rules::refusal::Refusal;
 use runs::search::search;
 
@@ -30,53 +25,6 @@ pub struct Answer {
     pub cells: u64,
     pub pairs: u64,
     pub counts: [u64; 8],
-}
-
-// Plans a query that has passed the checks, or refuses it for too little room.
-fn plan_checked<'a>(
-    tally: &Tally<'a>,
-    scans: &[u64],
-    rates: &Rates<'a>,
-    crew: Crew,
-    turns: &[u64],
-    memo: &mut Memo,
-    log: &mut Log,
-) -> Result<Answer, Refusal>
-    requires { (workers : ℕ) × (scheme : ℕ) × Passed (input_by tally.now.graph.now scans.now rates.now workers scheme turns.now (held memo.old) (logged log.old)) crew }
-    ensures planned { (workers scheme : ℕ) → Passed (input_by tally.now.graph.now scans.now rates.now workers scheme turns.now (held memo.old) (logged log.old)) crew → Planned (input_by tally.now.graph.now scans.now rates.now workers scheme turns.now (held memo.old) (logged log.old)) (outcome_of result (memory_in (held memo.new) (logged log.new))) }
-    ensures same_memo { SameLists memo.old memo.new }
-    ensures same_log { SameColumns log.new log.old }
-{
-    let laid = lay_out(tally, memo)?;
-    let mut columns = Columns {
-        costs: &mut *memo.costs,
-        outers: &mut *memo.outers,
-        methods: &mut *memo.methods,
-    };
-    let sets = &*memo.sets;
-    let estimates = &*memo.estimates;
-    let skips = &*memo.skips;
-    let found = search(
-        tally,
-        scans,
-        rates,
-        crew,
-        turns,
-        sets,
-        estimates,
-        skips,
-        &mut columns,
-        log,
-    );
-    let best = columns.costs[laid.rows as usize - 1];
-    let counts = found.counts;
-    Ok(Answer {
-        best,
-        rows: laid.rows,
-        cells: laid.cells,
-        pairs: found.pairs as u64,
-        counts,
-    })
 }
 
 // Plans a query in lent memory, or refuses it with a number and a place and nothing changed.
@@ -144,19 +92,25 @@ pub fn plan<'q, 'm, 'l>(
         graph: &graph,
         counts: &counts,
     };
+    let mut memo = Memo {
+        sets: &mut *sets,
+        estimates: &mut *estimates,
+        costs: &mut *costs,
+        outers: &mut *outers,
+        methods: &mut *methods,
+        skips: &mut *skips,
+    };
+    let laid = lay_out(&tally, &mut memo)?;
     let rates = Rates {
         fixed,
         outer: per_outer,
         inner: per_inner,
         res: per_result,
     };
-    let mut memo = Memo {
-        sets,
-        estimates,
+    let mut columns = Columns {
         costs,
         outers,
         methods,
-        skips,
     };
     let mut log = Log {
         workers: log_workers,
@@ -164,5 +118,25 @@ pub fn plan<'q, 'm, 'l>(
         inner: log_inner,
         costs: log_costs,
     };
-    plan_checked(&tally, scans, &rates, crew, turns, &mut memo, &mut log)
+    let found = search(
+        &tally,
+        scans,
+        &rates,
+        crew,
+        turns,
+        sets,
+        estimates,
+        skips,
+        &mut columns,
+        &mut log,
+    );
+    let best = columns.costs[laid.rows as usize - 1];
+    let counts = found.counts;
+    Ok(Answer {
+        best,
+        rows: laid.rows,
+        cells: laid.cells,
+        pairs: found.pairs as u64,
+        counts,
+    })
 }
