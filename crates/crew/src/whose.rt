@@ -1,17 +1,15 @@
 // Whose turn it is: "Each entry of the list is one turn"; "When the list is used up, the lowest-numbered worker with a pair left has the
 // turn".
-ghost use Rattle.std.specs.Prelude.{◌≡◌, ◌≤◌};
-ghost use Rattle.rules.specs.Limits.{max_workers};
+ghost use Rattle.std.specs.Prelude.{◌≡◌, length};
 ghost use Rattle.crew.specs.Whose.{Lowest, whose, entries_on};
 
 use super::Worker;
 
-// The lowest of `count` workers with a pair left.
-pub fn lowest(workers: &[Worker; 8], count: usize) -> Option<usize>
-    requires { count ≤ max_workers }
-    ensures { Lowest workers.now count result }
+// The lowest of the lent workers with a pair left.
+pub fn lowest(workers: &[Worker]) -> Option<usize>
+    ensures { Lowest workers.now (length workers.now) result }
 {
-    workers[..count]
+    workers
         .iter()
         .position(|worker| worker.place.pair.is_some())
 }

@@ -156,7 +156,7 @@ fn take_turns(
 {
     let group = Group::by_size(k);
     let mut used = used;
-    while let Some(low) = lowest(workers, crew.workers as usize) {
+    while let Some(low) = lowest(&workers[..crew.workers as usize]) {
         let w = whose_turn(turns, used, low);
         used = entries_on(turns.len(), used);
         let pair = turn(setting, columns, group, workers, w);

@@ -72,14 +72,14 @@ pub fn search<'a>(
         let group = Group::by_size(k);
         open(&setting.footing, group, crew, &mut workers);
         // Where the worker that had the turn has a pair left, the lowest one with a pair left is who it was.
-        let mut low = lowest(&workers, count);
+        let mut low = lowest(&workers[..count]);
         while let Some(first) = low {
             let w = whose_turn(turns, at, first);
             let pair = turn(&setting, columns, group, &mut workers, w);
             pairs = log.note(pairs, w, pair);
             at = entries_on(turns.len(), at);
             if workers[w].place.pair.is_none() {
-                low = lowest(&workers, count);
+                low = lowest(&workers[..count]);
             }
         }
     }

@@ -1,5 +1,5 @@
 use Rattle.std.proofs.Common.{arith}
-use Rattle.crew.proofs.Lowest.{lowest-some, none-left}
+use Rattle.crew.proofs.Lowest.{lowest-some, none-left, lowest-part}
 use Rattle.turns.specs.Taken.{board-by}
 use Rattle.rounds.specs.RoundLaws.{whose-known, printable-pair, within-places, within-plays, turned-within, turned-less, closed-between}
 use Rattle.rounds.proofs.take_turns.Goals as goal
@@ -12,30 +12,30 @@ turn-pair-requires-clause-open g c =
 pub turn-pair-requires-clause-ready : goal.turn-pair-requires-clause-ready
 turn-pair-requires-clause-ready g c =
     let r = c.requires.group in
-    let k = whose-known c.loop-low.used c.in-Some.low r.2 (lowest-some c.lowest.ensures c.in-Some.is).0 c.whose_turn-w.ensures in
+    let k = whose-known c.loop-low.used c.in-Some.low r.2 (lowest-some (lowest-part c.lowest.ensures) c.in-Some.is).0 c.whose_turn-w.ensures in
     (omega (arith, k, r.2.few-workers), (within-places r.2 r.0 r.1 c.by_size-group.ensures c.loop-low.invariant).ready _ k)
 
 pub print_pair-requires : goal.print_pair-requires
 print_pair-requires g c =
     let r = c.requires.group in
-    let k = whose-known c.loop-low.used c.in-Some.low r.2 (lowest-some c.lowest.ensures c.in-Some.is).0 c.whose_turn-w.ensures in
+    let k = whose-known c.loop-low.used c.in-Some.low r.2 (lowest-some (lowest-part c.lowest.ensures) c.in-Some.is).0 c.whose_turn-w.ensures in
     let b = board-by c.args.setting.now (within-plays r.2 r.0 r.1 c.by_size-group.ensures c.loop-low.invariant) in
     printable-pair b c.turn-pair.ensures.taken ((within-places r.2 r.0 r.1 c.by_size-group.ensures c.loop-low.invariant).ready _ k)
 
 pub loop-low-smaller : goal.loop-low-smaller
 loop-low-smaller g c =
     let r = c.requires.group in
-    let l = lowest-some c.lowest.ensures c.in-Some.is in
+    let l = lowest-some (lowest-part c.lowest.ensures) c.in-Some.is in
     let k = whose-known c.loop-low.used c.in-Some.low r.2 l.0 c.whose_turn-w.ensures in
     turned-less r.2 r.0 r.1 c.by_size-group.ensures c.loop-low.invariant k c.turn-pair.ensures.taken c.loop-low.used c.in-Some.low l.1 l.0 c.whose_turn-w.ensures c.entries_on-used.ensures
 
 pub loop-low-preserved : goal.loop-low-preserved
 loop-low-preserved g c =
     let r = c.requires.group in
-    let k = whose-known c.loop-low.used c.in-Some.low r.2 (lowest-some c.lowest.ensures c.in-Some.is).0 c.whose_turn-w.ensures in
+    let k = whose-known c.loop-low.used c.in-Some.low r.2 (lowest-some (lowest-part c.lowest.ensures) c.in-Some.is).0 c.whose_turn-w.ensures in
     turned-within r.2 r.0 r.1 c.by_size-group.ensures c.loop-low.invariant k c.turn-pair.ensures.taken
 
 pub returns : goal.returns
 returns g c =
     let r = c.requires.group in
-    closed-between r.2 r.0 r.1 c.by_size-group.ensures c.loop-low.invariant (none-left c.lowest.ensures c.in_default.is) (omega arith)
+    closed-between r.2 r.0 r.1 c.by_size-group.ensures c.loop-low.invariant (none-left (lowest-part c.lowest.ensures) c.in_default.is) (omega arith)

@@ -9,6 +9,8 @@ use Rattle.rules.specs.declared.Shape.TheVariants.{Bushy}
 use Rattle.rules.specs.Query.{table_count}
 use Rattle.rules.specs.Schedule.{by_size}
 use Rattle.crew.specs.Lent.{memory_of}
+use Rattle.crew.specs.Whose.{Lowest}
+use Rattle.crew.proofs.Lowest.{lowest-part}
 use Rattle.turns.specs.Taken.{columns_of}
 use Rattle.runs.specs.SearchLaws.{work-by-size, scans-fit, grounded, between_start, between-end, nobodies, within-open, within-closed, within-few, within-plays, within-ready, whose-known, TurnedTo, turned-to, open-fits}
 use Rattle.runs.specs.Views.{query_by, same_on}
@@ -52,7 +54,7 @@ open-requires c =
 pub loop-low-init : goal.loop-low-init
 loop-low-init c =
     let b = c.loop-k.invariant in
-    let l = c.lowest-low.ensures in
+    let l : Lowest c.open.new.workers c.args.crew.workers c.lowest-low.result = lowest-part c.lowest-low.ensures in
     (within-open (work-by-size c.requires) (omega arith) (known (goal.at.loop-low-init c).After-by_size-group) c.by_size-group.ensures b.1 c.open.ensures l.is, l.inside, b.2)
 
 pub turn-pair-requires-clause-open : goal.turn-pair-requires-clause-open
@@ -81,7 +83,7 @@ loop-low-smaller-then-is_none c =
 
 pub loop-low-preserved-then-is_none : goal.loop-low-preserved-then-is_none
 loop-low-preserved-then-is_none c =
-    let l = c.lowest-low-then-is_none.ensures in
+    let l = lowest-part c.lowest-low-then-is_none.ensures in
     ((next (goal.at.loop-low-preserved-then-is_none c).After-entries_on-at (known (goal.at.loop-low-preserved-then-is_none c).After-by_size-group)).within l.is, l.inside, same_on c.loop-low.invariant.2 c.turn-pair.ensures.same_columns c.note-pairs.ensures.same_columns)
 
 pub loop-low-smaller : goal.loop-low-smaller
