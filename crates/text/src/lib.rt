@@ -123,6 +123,18 @@ fn compose(text: &[u8], line: &mut Line)
     };
     match read(text, &mut columns) {
         Ok(progress) => {
+            let Columns {
+                rows,
+                scans,
+                left,
+                right,
+                divisors,
+                fixed,
+                per_outer,
+                per_inner,
+                per_result,
+                ..
+            } = columns;
             let tables = progress.tables;
             let edges = progress.edges;
             let methods = progress.methods;
