@@ -4,7 +4,7 @@ use Rattle.std.proofs.Common.{sym, ap, ◌∙◌, subst, arith, pow_pos, length-
 use mathlib.Core.List.{List, ◌++◌, map, Memᴰ}
 use Rattle.std.proofs.Math.Decide.{dec_lt}
 use Rattle.rules.specs.declared.refusal.Refusal.{Refusal}
-use Rattle.rules.specs.Verdict.{Verdict, number_of, told}
+use Rattle.rules.specs.Verdict.{number_of, told}
 use Rattle.rules.specs.Limits.{max_tables, text_rows, answer_room}
 use Rattle.rules.specs.Sets.{size, single, full}
 use Rattle.rules.specs.Query.{Graph, table_count}

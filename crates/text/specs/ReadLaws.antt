@@ -1,12 +1,11 @@
 -- From the reading of a text to its answer, and from there to the lent buffer.
-use Rattle.std.specs.Prelude.{◌≡◌, refl, List, ℕ, ◌+◌, ◌-◌, ◌^◌, ◌≤◌, ◌<◌, ◌++◌, length, take, drop}
+use Rattle.std.specs.Prelude.{◌≡◌, refl, List, ℕ, ◌+◌, ◌^◌, ◌≤◌, ◌<◌, ◌++◌, length, take, drop}
 use Rattle.std.proofs.Common.{sym, ap, ◌∙◌, subst, arith}
 use Rattle.std.proofs.Math.Decide.{ℕ_discrete}
 use Rattle.std.proofs.lemmas.List.Edits.{sets}
 use Rattle.rules.specs.declared.refusal.Refusal.{Refusal}
 use Rattle.rules.specs.Verdict.{Verdict, none, told}
 use Rattle.rules.specs.Limits.{answer_room}
-use Rattle.rules.specs.Lists.{over}
 use Rattle.rules.specs.Refusals.{Input, verdict}
 use Rattle.rules.specs.Reading.{Read, Reading, reading}
 use Rattle.rules.specs.Writing.{refusal_line}

@@ -101,25 +101,16 @@ fn compose(text: &[u8], line: &mut Line)
     requires { line.old.at + answer_room ≤ length line.old.out.now }
     ensures { Composed (text_verdict text.now) (input_of text.now) line.old line.new }
 {
-    let mut rows = [0u64; 16];
-    let mut scans = [0u64; 16];
-    let mut left = [0u64; 120];
-    let mut right = [0u64; 120];
-    let mut divisors = [0u64; 120];
-    let mut fixed = [0u64; 4];
-    let mut per_outer = [0u64; 4];
-    let mut per_inner = [0u64; 4];
-    let mut per_result = [0u64; 4];
     let mut columns = Columns {
-        rows: &mut rows,
-        scans: &mut scans,
-        left: &mut left,
-        right: &mut right,
-        divisors: &mut divisors,
-        fixed: &mut fixed,
-        per_outer: &mut per_outer,
-        per_inner: &mut per_inner,
-        per_result: &mut per_result,
+        rows: &mut [0u64; 16],
+        scans: &mut [0u64; 16],
+        left: &mut [0u64; 120],
+        right: &mut [0u64; 120],
+        divisors: &mut [0u64; 120],
+        fixed: &mut [0u64; 4],
+        per_outer: &mut [0u64; 4],
+        per_inner: &mut [0u64; 4],
+        per_result: &mut [0u64; 4],
     };
     match read(text, &mut columns) {
         Ok(progress) => {

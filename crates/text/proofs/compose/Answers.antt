@@ -1,5 +1,4 @@
 use native.Mathlib.Omega.{arith}
-use Rattle.std.proofs.Common.{sym}
 use Rattle.reader.specs.Records.{lists_of}
 use Rattle.text.specs.ReadLaws.{read-refused, read-planned}
 use Rattle.text.proofs.compose.Goals as goal

@@ -1,5 +1,5 @@
 use native.Mathlib.Omega.{arith}
-use Rattle.text.specs.PlanLaws.{answered_is, answered-refused, answered-few, answered-kept, answered-put, answered-planned, plan-fits, all-tables, some-tables}
+use Rattle.text.specs.PlanLaws.{answered_is, answered-refused, answered-few, answered-kept, answered-put, answered-planned, plan-fits, all-tables}
 use Rattle.text.proofs.put_answer.Goals as goal
 
 pub put_plan-requires : goal.put_plan-requires
@@ -10,9 +10,6 @@ overflow_add-memo c = omega (arith, answered-few (answered_is c.in-Ok.is c.requi
 
 pub single-requires : goal.single-requires
 single-requires c = (omega arith, omega (arith, answered-few (answered_is c.in-Ok.is c.requires.answered.1)))
-
-pub overflow_sub-single : goal.overflow_sub-single
-overflow_sub-single c = some-tables _ c.single.ensures
 
 pub put_joins-requires : goal.put_joins-requires
 put_joins-requires c =
