@@ -1,6 +1,6 @@
 -- From what planning promises to the lines of its answer.
 use Rattle.std.specs.Prelude.{◌≡◌, refl, ℕ, zero, suc, ◌+◌, ◌-◌, ◌^◌, ◌≤◌, ◌<◌, length, get_or, Result, Ok, Err}
-use Rattle.std.proofs.Common.{sym, ap, ◌∙◌, subst, arith, pow_pos, length-append}
+use Rattle.std.proofs.Common.{sym, ap, ◌∙◌, subst, arith, length-append}
 use mathlib.Core.List.{List, ◌++◌, map, Memᴰ}
 use Rattle.std.proofs.Math.Decide.{dec_lt}
 use Rattle.rules.specs.declared.refusal.Refusal.{Refusal}
@@ -185,6 +185,3 @@ refusal-fits line r n e l h = rw e (omega (arith, refusal-room (told r) (omega (
 -- all tables, as the code finds them
 pub all-tables : (n : ℕ) {s : ℕ} → s ≡ single (n + 1) → s - 1 ≡ full n
 all-tables n {s} e = let k : n + 1 - 1 ≡ n = omega arith in rw (e, k) refl
-
-pub some-tables : (n : ℕ) {s : ℕ} → s ≡ single (n + 1) → 1 ≤ s
-some-tables n e = omega (arith, e, pow_pos (n + 1 - 1))

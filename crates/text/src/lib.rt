@@ -49,17 +49,11 @@ fn plan_read(line: &mut Line, query: &Query, workers: u64, scheme: u64)
     requires { line.old.at + answer_room ≤ length line.old.out.now }
     ensures { Composed (verdict (text_input (query_in query.now) workers scheme)) (text_input (query_in query.now) workers scheme) line.old line.new }
 {
-    let turns = [0u64; 0];
     let mut sets = [0u64; 1023];
     let mut estimates = [0u64; 1023];
     let mut costs = [0u64; 1023];
     let mut outers = [0u64; 1023];
     let mut methods = [0u64; 1023];
-    let mut skips = [0u64; 5120];
-    let mut log_workers = [0u64; 0];
-    let mut log_driving = [0u64; 0];
-    let mut log_inner = [0u64; 0];
-    let mut log_costs = [0u64; 0];
     let planned = plan(
         query.rows,
         query.scans,
@@ -72,17 +66,17 @@ fn plan_read(line: &mut Line, query: &Query, workers: u64, scheme: u64)
         query.per_result,
         workers,
         scheme,
-        &turns,
+        &[],
         &mut sets,
         &mut estimates,
         &mut costs,
         &mut outers,
         &mut methods,
-        &mut skips,
-        &mut log_workers,
-        &mut log_driving,
-        &mut log_inner,
-        &mut log_costs,
+        &mut [0u64; 5120],
+        &mut [],
+        &mut [],
+        &mut [],
+        &mut [],
     );
     let tables = query.rows.len() as u64;
     let memo = Memo {
