@@ -16,7 +16,7 @@ use shown::Spaced;
 use std::io;
 use std::io::Read;
 
-// So much of the input is read.
+// So many bytes of the input are read, and the rest is passed over.
 const ROOM: u64 = 16384;
 
 // Plans an input in lent memory.
