@@ -1,19 +1,22 @@
 // An input, and the lines that say it.
 use std::alloc::{AllocError, Global};
 
+// So many numbers a list may hold.
+const MOST: usize = 31;
+
 // How many cells are lent for each of the memo's columns, for the skip vectors and for each of the log's columns.
 #[derive(Clone, Copy, Default)]
 pub struct Lent {
-    pub sets: usize,
-    pub estimates: usize,
-    pub costs: usize,
-    pub outers: usize,
-    pub methods: usize,
-    pub skips: usize,
-    pub log_workers: usize,
-    pub log_driving: usize,
-    pub log_inner: usize,
-    pub log_costs: usize,
+    pub sets: u64,
+    pub estimates: u64,
+    pub costs: u64,
+    pub outers: u64,
+    pub methods: u64,
+    pub skips: u64,
+    pub log_workers: u64,
+    pub log_driving: u64,
+    pub log_inner: u64,
+    pub log_costs: u64,
 }
 
 // The lists and numbers of an input, and what is lent to it.
@@ -54,84 +57,85 @@ impl Input {
         }
     }
 
-    // Puts the numbers of a line into the list of its letter; a line with another letter is a remark.
-    pub fn set(&mut self, letter: &str, numbers: Vec<u64>) {
+    // Puts the numbers of a line into the list of its letter, or each into its place, where those left out stay as they were; a line with
+    // another letter is a remark.
+    pub fn set(&mut self, letter: u8, numbers: Vec<u64>) {
+        let named = |i: usize, before: u64| numbers.get(i).copied().unwrap_or(before);
         match letter {
-            "r" => self.rows = numbers,
-            "s" => self.scans = numbers,
-            "a" => self.left = numbers,
-            "b" => self.right = numbers,
-            "d" => self.divisors = numbers,
-            "f" => self.fixed = numbers,
-            "o" => self.outer = numbers,
-            "i" => self.inner = numbers,
-            "e" => self.result = numbers,
-            "t" => self.turns = numbers,
-            "w" => {
-                if let [workers, scheme] = numbers.as_slice() {
-                    self.workers = *workers;
-                    self.scheme = *scheme;
-                }
+            b'w' => {
+                self.workers = named(0, self.workers);
+                self.scheme = named(1, self.scheme);
             }
-            "m" => {
-                if let [sets, estimates, costs, outers, methods] = numbers.as_slice() {
-                    self.lent.sets = *sets as usize;
-                    self.lent.estimates = *estimates as usize;
-                    self.lent.costs = *costs as usize;
-                    self.lent.outers = *outers as usize;
-                    self.lent.methods = *methods as usize;
-                }
+            b'm' => {
+                self.lent.sets = named(0, self.lent.sets);
+                self.lent.estimates = named(1, self.lent.estimates);
+                self.lent.costs = named(2, self.lent.costs);
+                self.lent.outers = named(3, self.lent.outers);
+                self.lent.methods = named(4, self.lent.methods);
             }
-            "c" => {
-                if let [skips] = numbers.as_slice() {
-                    self.lent.skips = *skips as usize;
-                }
+            b'c' => self.lent.skips = named(0, self.lent.skips),
+            b'g' => {
+                self.lent.log_workers = named(0, self.lent.log_workers);
+                self.lent.log_driving = named(1, self.lent.log_driving);
+                self.lent.log_inner = named(2, self.lent.log_inner);
+                self.lent.log_costs = named(3, self.lent.log_costs);
             }
-            "g" => {
-                if let [workers, driving, inner, costs] = numbers.as_slice() {
-                    self.lent.log_workers = *workers as usize;
-                    self.lent.log_driving = *driving as usize;
-                    self.lent.log_inner = *inner as usize;
-                    self.lent.log_costs = *costs as usize;
-                }
-            }
+            b'r' => self.rows = numbers,
+            b's' => self.scans = numbers,
+            b'a' => self.left = numbers,
+            b'b' => self.right = numbers,
+            b'd' => self.divisors = numbers,
+            b'f' => self.fixed = numbers,
+            b'o' => self.outer = numbers,
+            b'i' => self.inner = numbers,
+            b'e' => self.result = numbers,
+            b't' => self.turns = numbers,
             _ => (),
         }
     }
 }
 
-// What a line says.
+// What a line says, by its first byte.
 #[derive(Clone, Copy)]
 pub enum Line<'a> {
+    Empty,
     // A letter, and numbers.
-    List(&'a str, &'a str),
+    List(u8, &'a [u8]),
     // All lists as they stand are kept for the inputs that follow.
     Keep,
     // An input's name: it is planned, and all is shown.
-    Show(&'a str),
+    Show(&'a [u8]),
     // An input's name: it is planned, and number and place are shown.
-    Judge(&'a str),
+    Judge(&'a [u8]),
 }
 
-impl<'a> From<&'a str> for Line<'a> {
-    fn from(line: &'a str) -> Line<'a> {
-        if line == "=" {
-            return Line::Keep;
+impl<'a> From<&'a [u8]> for Line<'a> {
+    fn from(line: &'a [u8]) -> Line<'a> {
+        match line {
+            [] => Line::Empty,
+            [b'=', ..] => Line::Keep,
+            [b'!', name @ ..] => Line::Show(name),
+            [b'?', name @ ..] => Line::Judge(name),
+            [letter, text @ ..] => Line::List(*letter, text),
         }
-        if let Some(name) = line.strip_prefix('!') {
-            return Line::Show(name);
-        }
-        if let Some(name) = line.strip_prefix('?') {
-            return Line::Judge(name);
-        }
-        let (letter, numbers) = line.split_once(' ').unwrap_or((line, ""));
-        Line::List(letter, numbers)
     }
 }
 
-// The numbers of a line, with blanks between.
-pub fn numbers(alloc: Global, text: &str) -> Result<Vec<u64>, AllocError> {
-    text.split(' ')
-        .filter_map(|n| n.parse::<u64>().ok())
-        .collect(alloc)
+// A number with one more digit. Any byte is taken for a digit, and what is too large wraps.
+fn with_digit(number: u64, byte: u8) -> u64 {
+    number
+        .wrapping_mul(10)
+        .wrapping_add((byte as u64).wrapping_sub(b'0' as u64))
+}
+
+// The numbers of a line, a blank before each. Where a list is full, the next number stands in the place of its last.
+pub fn numbers(alloc: Global, text: &[u8]) -> Result<Vec<u64>, AllocError> {
+    let mut numbers = Vec::new(alloc);
+    for digits in text.split(|b| *b == b' ').skip(1) {
+        if numbers.len() == MOST {
+            numbers.pop();
+        }
+        numbers.push(digits.iter().fold(0, |n, b| with_digit(n, *b)))?;
+    }
+    Ok(numbers)
 }

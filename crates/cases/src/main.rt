@@ -11,11 +11,16 @@ mod shown;
 use input::{Input, Line, numbers};
 use memory::Memory;
 use planner::{Answer, plan};
+use rules::refusal::Refusal;
 use shown::Spaced;
 use std::io;
+use std::io::Read;
+
+// So many bytes of the input are read, and the rest is passed over.
+const ROOM: u64 = 16384;
 
 // Plans an input in lent memory.
-fn plan_in(input: &Input, memory: &mut Memory) -> Answer {
+fn plan_in(input: &Input, memory: &mut Memory) -> Result<Answer, Refusal> {
     plan(
         &input.rows,
         &input.scans,
@@ -42,45 +47,63 @@ fn plan_in(input: &Input, memory: &mut Memory) -> Answer {
     )
 }
 
-fn print_answer(rt: &impl Print, answer: &Answer) -> io::Result<()> {
-    println!(rt;
-        "refusal {} place {} best {} rows {} cells {} pairs {} counts{}",
-        answer.refusal,
-        answer.place,
-        answer.best,
-        answer.rows,
-        answer.cells,
-        answer.pairs,
-        Spaced(&answer.counts)
-    )
+// The answer's numbers; a refusal has zeros for those of a plan, and a plan has zeros for those of a refusal.
+fn print_answer(rt: &impl Print, answer: &Result<Answer, Refusal>) -> io::Result<()> {
+    match answer {
+        Ok(answer) => println!(rt;
+            "refusal 0 place 0 best {} rows {} cells {} pairs {} counts{}",
+            answer.best,
+            answer.rows,
+            answer.cells,
+            answer.pairs,
+            Spaced(&answer.counts)
+        ),
+        Err(refusal) => println!(rt;
+            "refusal {} place {} best 0 rows 0 cells 0 pairs 0 counts{}",
+            refusal.reason.number(),
+            refusal.place,
+            Spaced(&[0; 8])
+        ),
+    }
 }
 
 // The answer, then what was lent: the part that planning fills, and the spare part.
-fn show(rt: &(impl Print + AllocGlobal), name: &str, input: &Input) -> io::Result<()> {
+fn show(rt: &(impl Print + AllocGlobal), name: &[u8], input: &Input) -> io::Result<()> {
     let mut memory = Memory::lent(rt.alloc(), &input.lent)?;
     let answer = plan_in(input, &mut memory);
-    println!(rt; "{name}")?;
+    let (rows, cells, pairs) = match &answer {
+        Ok(answer) => (answer.rows, answer.cells, answer.pairs),
+        Err(_) => (0, 0, 0),
+    };
+    rt.write_all(name)?;
+    println!(rt; "")?;
     print_answer(rt, &answer)?;
-    memory.print_rows(rt, answer.rows as usize)?;
-    memory.print_spare_cells(rt, answer.cells as usize)?;
-    memory.print_log(rt, answer.pairs as usize)
+    memory.print_rows(rt, rows as usize)?;
+    memory.print_spare_cells(rt, cells as usize)?;
+    memory.print_log(rt, pairs as usize)
 }
 
-// Number and place alone.
-fn judge(rt: &(impl Print + AllocGlobal), name: &str, input: &Input) -> io::Result<()> {
+// Number and place alone; 0 and 0 for a plan.
+fn judge(rt: &(impl Print + AllocGlobal), name: &[u8], input: &Input) -> io::Result<()> {
     let mut memory = Memory::lent(rt.alloc(), &input.lent)?;
-    let answer = plan_in(input, &mut memory);
-    println!(rt; "{name}: {} {}", answer.refusal, answer.place)
+    let (number, place) = match plan_in(input, &mut memory) {
+        Ok(_) => (0, 0),
+        Err(refusal) => (refusal.reason.number(), refusal.place),
+    };
+    rt.write_all(name)?;
+    println!(rt; ": {number} {place}")
 }
 
 // A letter's line sets its list, `=` keeps all lists for the inputs that follow, `!` and `?` plan, and what was kept stands again.
 fn main(rt: HostRuntime) -> io::Result<()> {
     let alloc = rt.alloc();
+    let mut text = Vec::new(alloc);
+    rt.reader().take(ROOM).read_to_end(&mut text)?;
     let mut kept = Input::new(alloc);
     let mut input = Input::new(alloc);
-    for line in rt.lines(alloc) {
-        let line = line?;
-        match Line::from(line.as_str()) {
+    for line in text.split(|b| *b == b'\n') {
+        match Line::from(line) {
+            Line::Empty => (),
             Line::Keep => kept = input.clone()?,
             Line::Show(name) => {
                 show(&rt, name, &input)?;

@@ -8,6 +8,13 @@ use std::io;
 // What stands in lent memory before.
 const MARK: u64 = 77;
 
+// Room for the largest of these queries, a chain of sixteen tables, and some to spare; no more is lent.
+const MOST_ROWS: usize = 140;
+
+const MOST_CELLS: usize = 820;
+
+const MOST_ENTRIES: usize = 8;
+
 // The memo's columns, the skip cells, and the log's columns.
 #[derive(Drop)]
 pub struct Memory {
@@ -23,8 +30,13 @@ pub struct Memory {
     pub log_costs: Vec<u64>,
 }
 
-fn marked(alloc: Global, length: usize) -> Result<Vec<u64>, AllocError> {
-    vec![in alloc; MARK; length]
+fn marked(alloc: Global, length: u64, most: usize) -> Result<Vec<u64>, AllocError> {
+    vec![in alloc; MARK; most.min(length as usize)]
+}
+
+// A cell of a column; behind what was lent of it, a mark.
+fn cell(column: &[u64], i: usize) -> u64 {
+    column.get(i).copied().unwrap_or(MARK)
 }
 
 // A row of the memo.
@@ -49,36 +61,36 @@ struct Entry {
 impl Memory {
     pub fn lent(alloc: Global, lent: &Lent) -> Result<Memory, AllocError> {
         Ok(Memory {
-            sets: marked(alloc, lent.sets)?,
-            estimates: marked(alloc, lent.estimates)?,
-            costs: marked(alloc, lent.costs)?,
-            outers: marked(alloc, lent.outers)?,
-            methods: marked(alloc, lent.methods)?,
-            skips: marked(alloc, lent.skips)?,
-            log_workers: marked(alloc, lent.log_workers)?,
-            log_driving: marked(alloc, lent.log_driving)?,
-            log_inner: marked(alloc, lent.log_inner)?,
-            log_costs: marked(alloc, lent.log_costs)?,
+            sets: marked(alloc, lent.sets, MOST_ROWS)?,
+            estimates: marked(alloc, lent.estimates, MOST_ROWS)?,
+            costs: marked(alloc, lent.costs, MOST_ROWS)?,
+            outers: marked(alloc, lent.outers, MOST_ROWS)?,
+            methods: marked(alloc, lent.methods, MOST_ROWS)?,
+            skips: marked(alloc, lent.skips, MOST_CELLS)?,
+            log_workers: marked(alloc, lent.log_workers, MOST_ENTRIES)?,
+            log_driving: marked(alloc, lent.log_driving, MOST_ENTRIES)?,
+            log_inner: marked(alloc, lent.log_inner, MOST_ENTRIES)?,
+            log_costs: marked(alloc, lent.log_costs, MOST_ENTRIES)?,
         })
     }
 
-    fn row(&self, i: usize) -> Option<Row> {
-        Some(Row {
-            set: *self.sets.get(i)?,
-            estimate: *self.estimates.get(i)?,
-            cost: *self.costs.get(i)?,
-            outer: *self.outers.get(i)?,
-            method: *self.methods.get(i)?,
-        })
+    fn row(&self, i: usize) -> Row {
+        Row {
+            set: cell(&self.sets, i),
+            estimate: cell(&self.estimates, i),
+            cost: cell(&self.costs, i),
+            outer: cell(&self.outers, i),
+            method: cell(&self.methods, i),
+        }
     }
 
-    fn entry(&self, i: usize) -> Option<Entry> {
-        Some(Entry {
-            worker: *self.log_workers.get(i)?,
-            driving: *self.log_driving.get(i)?,
-            inner: *self.log_inner.get(i)?,
-            cost: *self.log_costs.get(i)?,
-        })
+    fn entry(&self, i: usize) -> Entry {
+        Entry {
+            worker: cell(&self.log_workers, i),
+            driving: cell(&self.log_driving, i),
+            inner: cell(&self.log_inner, i),
+            cost: cell(&self.log_costs, i),
+        }
     }
 
     // The filled rows as document 01 orders their fields, each with its skip vector, which has a cell for each table of the set; then the
@@ -86,7 +98,7 @@ impl Memory {
     pub fn print_rows(&self, rt: &impl Print, filled: usize) -> io::Result<()> {
         let mut skips = self.skips.as_slice();
         for i in 0..self.sets.len() {
-            let Some(row) = self.row(i) else { break };
+            let row = self.row(i);
             if i < filled {
                 let (cells, rest) = skips.split_at(skips.len().min(size(row.set) as usize));
                 skips = rest;
@@ -120,7 +132,7 @@ impl Memory {
     // The log's entries, and then the spare ones, as plain numbers.
     pub fn print_log(&self, rt: &impl Print, logged: usize) -> io::Result<()> {
         for i in 0..self.log_workers.len() {
-            let Some(entry) = self.entry(i) else { break };
+            let entry = self.entry(i);
             if i < logged {
                 println!(rt;
                     "worker {} joins {} {}: {}",

@@ -124,9 +124,10 @@ pub fn find(
     ensures { NextFrom footing.now.graph.now group share ahead result }
 {
     let starts = footing.starts;
+    let mut place = nowhere(share.total);
     let mut number = ahead;
     let mut from = row;
-    for d in size..group.last + 1 {
+    'find: for d in size..group.last + 1 {
         let wide = inner_at(group, d);
         let end = starts[wide + 1];
         let rows_from = starts[d];
@@ -139,6 +140,7 @@ pub fn find(
             wide,
         };
         for i in from..rows_to {
+            let x = footing.sets[i];
             let first = first_of(starts, wide, d, i);
             let own = span_of(
                 share,
@@ -148,22 +150,27 @@ pub fn find(
                 first,
                 end,
             );
-            let inner = along(footing.graph, &rows, footing.sets[i], own);
-            if inner < own.end {
-                return Place {
-                    number: number + (inner - first),
-                    pair: Some(Spot {
-                        size: d,
-                        row: i,
-                        inner,
-                    }),
-                };
+            let mut inner = own.from;
+            // Not `along`: document 01 wants the loop over inner rows here, and all three left by a label.
+            while inner < own.end {
+                if joinable(footing.graph, x, footing.sets[inner]) {
+                    place = Place {
+                        number: number + (inner - first),
+                        pair: Some(Spot {
+                            size: d,
+                            row: i,
+                            inner,
+                        }),
+                    };
+                    break 'find;
+                }
+                inner = onward(&rows, x, inner, own.step);
             }
             number += end - first;
         }
         from = rows_to;
     }
-    nowhere(share.total)
+    place
 }
 
 // The worker's first joinable pair of a group, or none.

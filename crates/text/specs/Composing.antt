@@ -1,5 +1,6 @@
 -- What stands between a text and the lent buffer: an answer's bytes at the start of a buffer of the entry's own.
-use Rattle.std.specs.Prelude.{◌≡◌, List, ℕ, ◌≤◌, length}
+use Rattle.std.specs.Prelude.{◌≡◌, List, ℕ, ◌≤◌, length, Result}
+use Rattle.rules.specs.declared.refusal.Refusal.{Refusal}
 use Rattle.rules.specs.Verdict.{Verdict}
 use Rattle.rules.specs.Limits.{text_rows, answer_room}
 use Rattle.rules.specs.Query.{table_count}
@@ -13,7 +14,7 @@ use Rattle.digits.specs.Put.{Put}
 use Rattle.writer.specs.declared.joins.Memo.{Memo}
 
 -- planning has answered an input, in a memo whose rows were blank
-pub record Answered (i : Input) (a : Answer) (m : Memo) : Type 0 where
+pub record Answered (i : Input) (a : Result Answer Refusal) (m : Memo) : Type 0 where
   pub tables : m.tables ≡ table_count i.query.graph
   pub blank : i.lent.sets ≡ blanks text_rows
   pub skips : List ℕ

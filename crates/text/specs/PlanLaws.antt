@@ -1,9 +1,10 @@
 -- From what planning promises to the lines of its answer.
-use Rattle.std.specs.Prelude.{◌≡◌, refl, ℕ, zero, suc, ◌+◌, ◌-◌, ◌^◌, ◌≤◌, ◌<◌, length, get_or}
-use Rattle.std.proofs.Common.{sym, ap, ◌∙◌, subst, arith, pow_pos, length-append}
+use Rattle.std.specs.Prelude.{◌≡◌, refl, ℕ, zero, suc, ◌+◌, ◌-◌, ◌^◌, ◌≤◌, ◌<◌, length, get_or, Result, Ok, Err}
+use Rattle.std.proofs.Common.{sym, ap, ◌∙◌, subst, arith, length-append}
 use mathlib.Core.List.{List, ◌++◌, map, Memᴰ}
 use Rattle.std.proofs.Math.Decide.{dec_lt}
-use Rattle.rules.specs.Verdict.{Verdict}
+use Rattle.rules.specs.declared.refusal.Refusal.{Refusal}
+use Rattle.rules.specs.Verdict.{number_of, told}
 use Rattle.rules.specs.Limits.{max_tables, text_rows, answer_room}
 use Rattle.rules.specs.Sets.{size, single, full}
 use Rattle.rules.specs.Query.{Graph, table_count}
@@ -29,23 +30,26 @@ use Rattle.digits.specs.Put.{Put}
 use Rattle.digits.specs.PutLaws.{put_then, put-length}
 use Rattle.writer.specs.declared.joins.Memo.{Memo}
 use Rattle.writer.specs.Plans.{Kept, ToPut}
+use Rattle.reader.specs.LoopLaws.{number-within}
 use Rattle.planner.specs.declared.Answer.{Answer}
 use Rattle.planner.specs.Plans.{memory_of, outcome_of}
 use Rattle.text.specs.Composing.{Answered, Composed}
 
 -- ---- a refusal
 -- "X, number, place": the answer's own
-pub refused-composed : {i : Input} {o : Outcome} {before after : Line} → Planned i o → (o.answer.refusal ≡ 0 → ⊥) → o.answer.refusal < 10 ^ 20 → o.answer.place < 10 ^ 20
-    → Put before after (refusal_line (record { number = o.answer.refusal; place = o.answer.place })) → Composed (verdict i) i before after
-refused-composed {i} {o} {before} {after} p n l₁ l₂ w = go (dec_lt 0 (verdict i).number)
+pub refused-composed : {i : Input} {o : Outcome} (r : Refusal) {before after : Line} → Planned i o → o.answer ≡ rules.refusal (told r) → r.place < 10 ^ 20
+    → Put before after (refusal_line (told r)) → Composed (verdict i) i before after
+refused-composed {i} {o} r {before} {after} p a l w = go (dec_lt 0 (verdict i).number)
   where
+    n : (1 ≤ number_of r.reason) × (number_of r.reason ≤ 25)
+    n = number-within r.reason
+
     go : Dec (0 < (verdict i).number) → Composed (verdict i) i before after
-    go (no z) = absurd (n (p.given (omega arith)).answer.refusal)
-    go (yes l) =
-        let e = (p.refused l).answer in
-        let v : Verdict = record { number = o.answer.refusal; place = o.answer.place } in
-        let same : v ≡ verdict i = λ t. record { number = (e t).refusal; place = (e t).place } in
-        record { bytes = refusal_line v; lined = record { planned = λ z. absurd (omega (arith, z, l)); refused = λ _. ap refusal_line same }; put = w; short = omega (arith, refusal-room v l₁ l₂) }
+    go (no z) = absurd (omega (arith, n.0, ap (λ (x : rules.Answer). x.refusal) a, (p.given (omega arith)).answer.refusal))
+    go (yes z) =
+        let e = sym a ∙ (p.refused z).answer in
+        let same : told r ≡ verdict i = λ t. record { number = (e t).refusal; place = (e t).place } in
+        record { bytes = refusal_line (told r); lined = record { planned = λ y. absurd (omega (arith, y, z)); refused = λ _. ap refusal_line same }; put = w; short = omega (arith, refusal-room (told r) (omega (arith, n.1)) l) }
 
 -- ---- a plan
 -- an answer that is no refusal is a plan's
@@ -143,42 +147,41 @@ planned-composed {i} {o} e g l₁ l₂ p joins =
     }
 
 -- ---- what planning answered
-module _ {i : Input} {a : Answer} {m : Memo} (z : Answered i a m) where
-  pub answered-refused : {before after : Line} → (a.refusal ≡ 0 → ⊥) → a.refusal < 10 ^ 20 → a.place < 10 ^ 20
-      → Put before after (refusal_line (record { number = a.refusal; place = a.place })) → Composed (verdict i) i before after
-  answered-refused = refused-composed z.planned
+pub answered_is : {i : Input} {a b : Result Answer Refusal} {m : Memo} → a ≡ b → Answered i a m → Answered i b m
+answered_is {i} {a} {b} {m} e z = subst (λ (x : Result Answer Refusal). Answered i x m) e z
 
-  module _ (e : a.refusal ≡ 0) where
-    none : (verdict i).number ≡ 0
-    none = (given-of z.planned e).0
+pub answered-refused : {i : Input} {r : Refusal} {m : Memo} {before after : Line} → Answered i (Err r) m → r.place < 10 ^ 20
+    → Put before after (refusal_line (told r)) → Composed (verdict i) i before after
+answered-refused {i} {r} z = refused-composed r z.planned refl
 
-    abbrev given : Given i (outcome_of a (memory_of m.sets.now m.estimates.now m.costs.now m.outers.now m.methods.now z.skips z.log_workers z.log_driving z.log_inner z.log_costs))
-    given = (given-of z.planned e).1
+module _ {i : Input} {a : Answer} {m : Memo} (z : Answered i (Ok a) m) where
+  none : (verdict i).number ≡ 0
+  none = (given-of z.planned refl).0
 
-    pub answered-few : m.tables ≤ max_tables
-    answered-few = omega (arith, z.tables, (accepted i none).checked.sound.graph.few-tables)
+  abbrev given : Given i (outcome_of (Ok a) (memory_of m.sets.now m.estimates.now m.costs.now m.outers.now m.methods.now z.skips z.log_workers z.log_driving z.log_inner z.log_costs))
+  given = (given-of z.planned refl).1
 
-    pub answered-kept : Kept i.query m
-    answered-kept = kept_of z.blank none given m z.tables refl refl refl refl refl
+  pub answered-few : m.tables ≤ max_tables
+  answered-few = omega (arith, z.tables, (accepted i none).checked.sound.graph.few-tables)
 
-    module _ (best : a.best < 10 ^ 20) (pairs : a.pairs < 10 ^ 20) {before mid : Line} (p : Put before mid (plan_line a.best a.pairs)) where
-      pub answered-put : {S : ℕ} → S ≡ full m.tables → before.at + answer_room ≤ length before.out.now → ToPut i.query S mid
-      answered-put s room = rw (s, z.tables) (to-put none given best pairs p room)
+  pub answered-kept : Kept i.query m
+  answered-kept = kept_of z.blank none given m z.tables refl refl refl refl refl
 
-      pub answered-planned : {S : ℕ} {after : Line} → S ≡ full m.tables → ((t : Tree) → Picked i.query t → tables_of t ≡ S → Put mid after (join_lines i.query t)) → Composed (verdict i) i before after
-      answered-planned s joins = planned-composed none given best pairs p (λ t k c. joins t k (c ∙ ap full (sym z.tables) ∙ sym s))
+  module _ (best : a.best < 10 ^ 20) (pairs : a.pairs < 10 ^ 20) {before mid : Line} (p : Put before mid (plan_line a.best a.pairs)) where
+    pub answered-put : {S : ℕ} → S ≡ full m.tables → before.at + answer_room ≤ length before.out.now → ToPut i.query S mid
+    answered-put s room = rw (s, z.tables) (to-put none given best pairs p room)
+
+    pub answered-planned : {S : ℕ} {after : Line} → S ≡ full m.tables → ((t : Tree) → Picked i.query t → tables_of t ≡ S → Put mid after (join_lines i.query t)) → Composed (verdict i) i before after
+    answered-planned s joins = planned-composed none given best pairs p (λ t k c. joins t k (c ∙ ap full (sym z.tables) ∙ sym s))
 
 -- "the P line" fits any buffer of the entry's own
 pub plan-fits : (line : Line) (best pairs : ℕ) → best < 10 ^ 20 → pairs < 10 ^ 20 → line.at + answer_room ≤ length line.out.now → line.at + length (plan_line best pairs) ≤ length line.out.now
 plan-fits line best pairs l₁ l₂ h = omega (arith, plan-room best pairs l₁ l₂)
 
 -- and so does an X line
-pub refusal-fits : (line : Line) (v : Verdict) → v.number < 10 ^ 20 → v.place < 10 ^ 20 → line.at + answer_room ≤ length line.out.now → line.at + length (refusal_line v) ≤ length line.out.now
-refusal-fits line v l₁ l₂ h = omega (arith, refusal-room v l₁ l₂)
+pub refusal-fits : (line : Line) (r : Refusal) (n : ℕ) → n ≡ number_of r.reason → r.place < 10 ^ 20 → line.at + answer_room ≤ length line.out.now → line.at + length (refusal_line (record { number = n; place = r.place })) ≤ length line.out.now
+refusal-fits line r n e l h = rw e (omega (arith, refusal-room (told r) (omega (arith, (number-within r.reason).1)) l))
 
 -- all tables, as the code finds them
 pub all-tables : (n : ℕ) {s : ℕ} → s ≡ single (n + 1) → s - 1 ≡ full n
 all-tables n {s} e = let k : n + 1 - 1 ≡ n = omega arith in rw (e, k) refl
-
-pub some-tables : (n : ℕ) {s : ℕ} → s ≡ single (n + 1) → 1 ≤ s
-some-tables n e = omega (arith, e, pow_pos (n + 1 - 1))

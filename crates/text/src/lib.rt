@@ -3,112 +3,91 @@
 
 ghost use Rattle.std.specs.Prelude.{◌≡◌, ◌≤◌, ◌+◌, length};
 ghost use Rattle.rules.specs.Limits.{answer_room};
-ghost use Rattle.rules.specs.Lists.{over};
 ghost use Rattle.rules.specs.Refusals.{Input, verdict};
+ghost use Rattle.rules.specs.Verdict.{told};
 ghost use Rattle.rules.specs.Text.{text_input, input_of, text_verdict, Written};
-ghost use Rattle.query.specs.Lists.{query_of};
+ghost use Rattle.rules.specs.Writing.{refusal_line};
+ghost use Rattle.query.specs.Lists.{query_in};
+ghost use Rattle.digits.specs.Put.{Put};
 ghost use Rattle.text.specs.Composing.{Answered, Composed};
 
 use digits::Line;
 use planner::{Answer, plan};
+use query::lists::Query;
+use reader::columns::Columns;
 use reader::reading::read;
-use rules::Verdict;
+use rules::refusal::Refusal;
 use sets::single;
 use writer::joins::{Memo, put_joins};
 use writer::lines::{put_plan, put_refusal};
 
-// One list to the start of another.
-fn copy(from: &[u8], to: &mut [u8])
-    requires { length from.now ≤ length to.old }
-    ensures { to.new ≡ over from.now to.old }
+// The X line of a refusal.
+fn put_refused(line: &mut Line, refusal: Refusal)
+    requires { line.old.at + answer_room ≤ length line.old.out.now }
+    ensures { Put line.old line.new (refusal_line (told refusal)) }
 {
-    for i in 0..from.len() {
-        to[i] = from[i];
-    }
+    put_refusal(line, refusal.reason.number(), refusal.place);
 }
 
 // Writes what planning answered: an X line, or a P line and the joins that stand in the memo.
-fn put_answer(line: &mut Line, answer: Answer, memo: &Memo)
+fn put_answer(line: &mut Line, planned: Result<Answer, Refusal>, memo: &Memo)
     requires room { line.old.at + answer_room ≤ length line.old.out.now }
-    requires answered { (i : Input) × Answered i answer memo.now }
-    ensures { (i : Input) → Answered i answer memo.now → Composed (verdict i) i line.old line.new }
+    requires answered { (i : Input) × Answered i planned memo.now }
+    ensures { (i : Input) → Answered i planned memo.now → Composed (verdict i) i line.old line.new }
 {
-    if answer.refusal != 0 {
-        put_refusal(
-            line,
-            Verdict {
-                number: answer.refusal,
-                place: answer.place,
-            },
-        );
-        return;
+    match planned {
+        Ok(answer) => {
+            put_plan(line, answer.best, answer.pairs);
+            put_joins(line, single(memo.tables + 1) - 1, memo);
+        }
+        Err(refusal) => put_refused(line, refusal),
     }
-    put_plan(line, answer.best, answer.pairs);
-    put_joins(line, single(memo.tables + 1) - 1, memo);
 }
 
 // Plans what was read, in memory of its own, and writes the answer.
-fn plan_read(
-    line: &mut Line,
-    rows: &[u64],
-    scans: &[u64],
-    left: &[u64],
-    right: &[u64],
-    divisors: &[u64],
-    fixed: &[u64],
-    outer: &[u64],
-    inner: &[u64],
-    res: &[u64],
-    workers: u64,
-    scheme: u64,
-)
+fn plan_read(line: &mut Line, query: &Query, workers: u64, scheme: u64)
     requires { line.old.at + answer_room ≤ length line.old.out.now }
-    ensures { Composed (verdict (text_input (query_of rows.now scans.now left.now right.now divisors.now fixed.now outer.now inner.now res.now) workers scheme)) (text_input (query_of rows.now scans.now left.now right.now divisors.now fixed.now outer.now inner.now res.now) workers scheme) line.old line.new }
+    ensures { Composed (verdict (text_input (query_in query.now) workers scheme)) (text_input (query_in query.now) workers scheme) line.old line.new }
 {
-    let turns = [0u64; 0];
     let mut sets = [0u64; 1023];
     let mut estimates = [0u64; 1023];
     let mut costs = [0u64; 1023];
     let mut outers = [0u64; 1023];
     let mut methods = [0u64; 1023];
-    let mut skips = [0u64; 5120];
-    let mut log_workers = [0u64; 0];
-    let mut log_driving = [0u64; 0];
-    let mut log_inner = [0u64; 0];
-    let mut log_costs = [0u64; 0];
-    let answer = plan(
-        rows,
-        scans,
-        left,
-        right,
-        divisors,
-        fixed,
-        outer,
-        inner,
-        res,
+    let planned = plan(
+        query.rows,
+        query.scans,
+        query.left,
+        query.right,
+        query.divisors,
+        query.fixed,
+        query.per_outer,
+        query.per_inner,
+        query.per_result,
         workers,
         scheme,
-        &turns,
+        &[],
         &mut sets,
         &mut estimates,
         &mut costs,
         &mut outers,
         &mut methods,
-        &mut skips,
-        &mut log_workers,
-        &mut log_driving,
-        &mut log_inner,
-        &mut log_costs,
+        &mut [0u64; 5120],
+        &mut [],
+        &mut [],
+        &mut [],
+        &mut [],
     );
+    let tables = query.rows.len() as u64;
     let memo = Memo {
-        tables: rows.len() as u64,
+        tables,
         sets: &sets,
         estimates: &estimates,
         costs: &costs,
         outers: &outers,
         methods: &methods,
     };
-    put_answer(line, answer, &memo);
+    put_answer(line, planned, &memo);
 }
 
 // The answer to a text, where any answer fits.
@@ -116,48 +95,49 @@ fn compose(text: &[u8], line: &mut Line)
     requires { line.old.at + answer_room ≤ length line.old.out.now }
     ensures { Composed (text_verdict text.now) (input_of text.now) line.old line.new }
 {
-    let mut rows = [0u64; 16];
-    let mut scans = [0u64; 16];
-    let mut left = [0u64; 120];
-    let mut right = [0u64; 120];
-    let mut divisors = [0u64; 120];
-    let mut fixed = [0u64; 4];
-    let mut outer = [0u64; 4];
-    let mut inner = [0u64; 4];
-    let mut result = [0u64; 4];
-    let held = read(
-        text,
-        &mut rows,
-        &mut scans,
-        &mut left,
-        &mut right,
-        &mut divisors,
-        &mut fixed,
-        &mut outer,
-        &mut inner,
-        &mut result,
-    );
-    if held.verdict.number != 0 {
-        put_refusal(line, held.verdict);
-        return;
+    let mut columns = Columns {
+        rows: &mut [0u64; 16],
+        scans: &mut [0u64; 16],
+        left: &mut [0u64; 120],
+        right: &mut [0u64; 120],
+        divisors: &mut [0u64; 120],
+        fixed: &mut [0u64; 4],
+        per_outer: &mut [0u64; 4],
+        per_inner: &mut [0u64; 4],
+        per_result: &mut [0u64; 4],
+    };
+    match read(text, &mut columns) {
+        Ok(progress) => {
+            let Columns {
+                rows,
+                scans,
+                left,
+                right,
+                divisors,
+                fixed,
+                per_outer,
+                per_inner,
+                per_result,
+                ..
+            } = columns;
+            let tables = progress.tables;
+            let edges = progress.edges;
+            let methods = progress.methods;
+            let query = Query {
+                rows: &rows[..tables],
+                scans: &scans[..tables],
+                left: &left[..edges],
+                right: &right[..edges],
+                divisors: &divisors[..edges],
+                fixed: &fixed[..methods],
+                per_outer: &per_outer[..methods],
+                per_inner: &per_inner[..methods],
+                per_result: &per_result[..methods],
+            };
+            plan_read(line, &query, progress.workers, progress.scheme);
+        }
+        Err(stopped) => put_refused(line, stopped.refusal),
     }
-    let tables = held.progress.tables;
-    let edges = held.progress.edges;
-    let ways = held.progress.methods;
-    plan_read(
-        line,
-        &rows[0..tables],
-        &scans[0..tables],
-        &left[0..edges],
-        &right[0..edges],
-        &divisors[0..edges],
-        &fixed[0..ways],
-        &outer[0..ways],
-        &inner[0..ways],
-        &result[0..ways],
-        held.progress.workers,
-        held.progress.scheme,
-    );
 }
 
 // Plans the query of a text, and writes the answer to the start of a lent buffer: its length, or 0 and nothing written where it
@@ -176,6 +156,6 @@ pub fn plan_bytes(query: &[u8], answer: &mut [u8]) -> usize
     if room < length {
         return 0;
     }
-    copy(&line.out[0..length], answer);
+    answer[..length].copy_from_slice(&line.out[..length]);
     length
 }

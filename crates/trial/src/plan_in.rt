@@ -1,6 +1,7 @@
 // Plans a query under a crew in memory that holds marks, and keeps what planning answered and left.
 use super::input::{Crew, Query};
 use planner::{Answer, plan};
+use rules::refusal::Refusal;
 use std::alloc::{AllocError, Global};
 
 // What stands in lent memory before.
@@ -76,17 +77,11 @@ impl Numbers {
     }
 }
 
-fn numbers_of(answer: Answer) -> Numbers {
-    let shared = [
-        answer.refusal,
-        answer.place,
-        answer.best,
-        answer.rows,
-        answer.cells,
-        answer.pairs,
-    ];
-    let counts = answer.counts;
-    Numbers { shared, counts }
+fn numbers_of(answer: Result<Answer, Refusal>) -> Numbers {
+    match answer {
+        Ok(a) => Numbers::of_plan(a.best, a.rows, a.cells, a.pairs, a.counts),
+        Err(r) => Numbers::of_refusal(r.reason.number(), r.place),
+    }
 }
 
 // A number of each record.
