@@ -57,18 +57,6 @@ read-planned text p a {before} {after} e c =
 pub lines-within : {v : Verdict} {i : Input} {start end : Line} → Composed v i start end → start.at + answer_room ≤ length start.out.now → end.at ≤ length end.out.now
 lines-within c room = omega (arith, c.put.end, put-length c.put, c.short, room)
 
-<<<<<<< HEAD
-pub written-long : (text : List ℕ) {start end : Line} {old : List ℕ} → Composed (text_verdict text) (input_of text) start end → start.at ≡ 0 → length old < end.at → Written text old old 0
-written-long text c z l = record {
-  bytes = c.bytes;
-  answer = c.lined;
-  short = c.short;
-  fits = λ k. absurd (omega (arith, k, l, z, c.put.end));
-  long = λ _. (refl, refl);
-}
-
-=======
->>>>>>> 9b3862514a05253b315326344bca85002823dc7a
 pub written-fits : (text : List ℕ) {start end : Line} {old copied : List ℕ} → Composed (text_verdict text) (input_of text) start end → start.at ≡ 0 → answer_room ≤ length start.out.now → end.at ≤ length old → copied ≡ take end.at end.out.now → Written text old (copied ++ drop end.at old) end.at
 written-fits text {start} {end} {old} {copied} c z room l w =
     let e : end.at ≡ length c.bytes = omega (arith, z, c.put.end) in
