@@ -2,7 +2,7 @@
 // What it must print was worked out from document 01 apart from this code, and stands in `stdout`.
 #![tactic(auto)]
 
-ghost use Rattle.std.specs.Prelude.{◌≡◌, IfOk, IfSome, ℕ, ◌+◌, ◌-◌, ◌≤◌, ◌<◌, length, map, take};
+ghost use Rattle.std.specs.Prelude.{◌≡◌, IfOk, ℕ, ◌+◌, ◌-◌, ◌≤◌, ◌<◌, length, map, take};
 ghost use Rattle.rules.specs.declared.Shape.TheVariants.{Bushy};
 ghost use Rattle.rules.specs.Schedule.{by_size};
 ghost use Rattle.rules.specs.Query.{table_count};
@@ -11,7 +11,7 @@ ghost use Rattle.rules.specs.Estimate.{estimate};
 ghost use Rattle.turns.specs.Standing.{Work};
 ghost use Rattle.turns.specs.Taken.{columns_of};
 ghost use Rattle.crew.specs.Workers.{worker_at};
-ghost use Rattle.rounds.specs.Rounds.{query_at, query_by, Printable, Shown, Between, Within, Started};
+ghost use Rattle.rounds.specs.Rounds.{query_at, query_by, Shown, Between, Within, Started};
 
 use crew::whose::{entries_on, lowest, whose_turn};
 use crew::{Handed, Worker, nobody};
@@ -50,9 +50,7 @@ fn print_place(rt: &impl Print, sets: &[u64], worker: Worker) -> io::Result<()>
 }
 
 // What a turn of worker `w` handed, and the cost in the result's row after it.
-fn print_pair(rt: &impl Print, w: usize, pair: Option<Handed>) -> io::Result<()>
-    requires { IfSome pair (λ p. Printable p.driving × Printable p.inner) }
-{
+fn print_pair(rt: &impl Print, w: usize, pair: Option<Handed>) -> io::Result<()> {
     match pair {
         None => println!(rt; "{w} joins none"),
         Some(pair) => println!(rt;
