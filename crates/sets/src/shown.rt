@@ -1,4 +1,4 @@
-// How a set of tables prints.
+// How a set of tables prints in the programs; `fmt` can have no contract, and what `cases` and `rounds` print holds it.
 use std::fmt;
 
 // A set's tables, ascending, with commas; 0 for the empty set, which is a single table's outer part.
