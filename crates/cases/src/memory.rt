@@ -1,6 +1,7 @@
 // What is lent to planning, marked, and how it prints after.
 use crate::input::Lent;
-use crate::shown::{Spaced, Tables};
+use crate::shown::Spaced;
+use sets::shown::Tables;
 use sets::size;
 use std::alloc::{AllocError, Global};
 use std::io;

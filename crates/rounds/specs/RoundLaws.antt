@@ -1,7 +1,7 @@
 -- Opening a group, its turns and its end, as the program meets them.
-use Rattle.std.specs.Prelude.{◌≡◌, ◌⊎◌, Bool, true, false, cond, List, [], ◌∷◌, Option, Some, IfSome, Result, ℕ, ◌+◌, ◌-◌, ◌*◌, ◌≤◌, ◌<◌, ltb, length, get_or, map, take, replicate}
+use Rattle.std.specs.Prelude.{◌≡◌, ◌⊎◌, Bool, true, false, cond, List, [], ◌∷◌, Option, Some, Result, ℕ, ◌+◌, ◌-◌, ◌*◌, ◌≤◌, ◌<◌, ltb, length, get_or, map, take, replicate}
 use Rattle.std.specs.Result.{is_err}
-use Rattle.std.proofs.Common.{sym, ap, ◌∙◌, inl, inr, ⊎_elim, add-one, arith, pow_mono, ltb-true, length-take, get_or-take}
+use Rattle.std.proofs.Common.{sym, ap, ◌∙◌, inl, inr, ⊎_elim, add-one, arith, ltb-true, length-take, get_or-take}
 use Rattle.std.proofs.Math.Decide.{dec_lt}
 use Rattle.std.proofs.lemmas.Option.{same_Some}
 use Rattle.rules.specs.declared.Crew.{Crew}
@@ -15,11 +15,9 @@ use Rattle.rules.specs.Rows.{memo}
 use Rattle.rules.specs.Shares.{met}
 use Rattle.rules.specs.Skips.{skips}
 use Rattle.rules.specs.Refusals.{first_of, checks_of}
-use Rattle.rules.specs.Checked.{GoodGraph, Sound}
+use Rattle.rules.specs.Checked.{Sound}
 use Rattle.rules.specs.laws.Bools.{true-or-false, not-both}
-use Rattle.rules.specs.laws.Lists.{at_in}
 use Rattle.rules.specs.laws.Shares.{cut-mono}
-use Rattle.rules.proofs.laws.Rows.{memo-only, below_all}
 use Rattle.rules.specs.laws.Refusals.{sound-of, crew-named, crew-of, turns-of}
 use Rattle.memo.specs.declared.layout.Laid.{Laid}
 use Rattle.rules.specs.declared.refusal.Refusal.{Refusal}
@@ -33,14 +31,14 @@ use Rattle.pairs.specs.Places.{Fit, Ground}
 use Rattle.crew.specs.declared.Worker.{Worker}
 use Rattle.crew.specs.declared.Handed as code
 use Rattle.opening.specs.Opening.{Opened}
-use Rattle.turns.specs.Standing.{Columns, columns, top_of, Reach, Open, Board, Ready, InPlace, TurnTaken, Work}
+use Rattle.turns.specs.Standing.{Columns, columns, top_of, Reach, Open, Board, InPlace, TurnTaken, Work}
 use Rattle.crew.specs.Workers.{nobody, worker_at}
 use Rattle.turns.specs.StandingLaws.{open-first, open-places, top-is, fit_is, few-handed, standing-open, standing-turn, standing-closed}
 use Rattle.turns.specs.QueueLaws.{still_met, turn-progress, turn-progress-none}
 use Rattle.turns.specs.StepLaws.{set_at, driving-inside, inner-inside, step-costs, step-outers, step-methods}
 use Rattle.turns.specs.StartLaws.{tables-fit, Starting, final-start, reach-start, ground-of, estimated-of, open-of}
 use Rattle.crew.specs.Whose.{LowestLeft, whose, entries_on}
-use Rattle.rounds.specs.Rounds.{Printable, Shown, Between, Within, Started}
+use Rattle.rounds.specs.Rounds.{Shown, Between, Within, Started}
 
 -- whoever has the turn is one of the workers
 pub whose-known : {q : Query} {crew : Crew} {groups : Schedule} {turns : List ℕ} (used low : ℕ) {w : ℕ} → Work q crew groups turns → low < crew.workers → w ≡ whose turns used low → w < crew.workers
@@ -53,37 +51,14 @@ whose-known {crew = crew} {turns = turns} used low {w} z l e = go (true-or-false
     go (inl t) = omega (arith, is true t, z.turns-known used (ltb-true used (length turns) t))
     go (inr t) = omega (arith, is false t)
 
--- a row's set can be printed
-printable-row : (g : Graph) → GoodGraph g → (r : ℕ) → r < length (memo g) → Printable (get_or (memo g) r 0)
-printable-row g good r l = omega (arith, below_all g (get_or (memo g) r 0) (memo-only g (get_or (memo g) r 0) (at_in 0 (memo g) r l)), pow_mono {i = table_count g} {j = 32} (omega (arith, good.few-tables)))
-
 module _ {g : Graph} {fixed outer inner result sets estimates cells starts cell_starts : List ℕ} {group : Group} {c : Columns} (b : Board g fixed outer inner result sets estimates cells starts cell_starts group c) where
-  -- so can where a worker waits
+  -- where a worker waits can be printed
   pub shown_of : {crew : Crew} {workers : List Worker} → InPlace g group crew workers → (w : ℕ) → w < crew.workers → Shown sets (worker_at workers w)
   shown_of {crew} z w l = record {
     share = rw (z.share w l) (cut-mono (length (met g group)) crew.workers w (w + 1) (omega arith) (omega arith));
-    driving = λ s e.
-        let i = driving-inside b (z.ready w l) e in
-        let x = set_at b _ i in
-        (x.0, rw x.1 (printable-row g b.graph _ i));
-    inner = λ s e.
-        let i = inner-inside b (z.ready w l) e in
-        let x = set_at b _ i in
-        (x.0, rw x.1 (printable-row g b.graph _ i));
+    driving = λ s e. (set_at b _ (driving-inside b (z.ready w l) e)).0;
+    inner = λ s e. (set_at b _ (inner-inside b (z.ready w l) e)).0;
   }
-
-  module _ {w : ℕ} {workers workers' : List Worker} {new : Columns} {pair : Option code.Handed} (t : TurnTaken g fixed outer inner result group w workers workers' c new pair) where
-    -- and what a turn hands
-    pub printable-pair : Ready g group (worker_at workers w) → IfSome pair (λ p. Printable p.driving × Printable p.inner)
-    printable-pair r = ⊎_elim some none (true-or-false (left (worker_at workers w).place))
-      where
-        some : left (worker_at workers w).place ≡ true → IfSome pair (λ p. Printable p.driving × Printable p.inner)
-        some e =
-            let h = t.step.some e in
-            rw h.answer (printable-row g b.graph _ (driving-inside b r h.at), printable-row g b.graph _ (inner-inside b r h.at))
-
-        none : left (worker_at workers w).place ≡ false → IfSome pair (λ p. Printable p.driving × Printable p.inner)
-        none e = rw (t.step.none e).2 tt
 
 -- the first m workers
 pub shown-taken : {sets : List ℕ} (workers : List Worker) {m : ℕ} → ((w : ℕ) → w < m → Shown sets (worker_at workers w)) → (w : ℕ) → w < length (take m workers) → Shown sets (worker_at (take m workers) w)

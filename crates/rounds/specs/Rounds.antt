@@ -1,5 +1,5 @@
 -- What is printed, and the state between groups and between turns.
-use Rattle.std.specs.Prelude.{◌≡◌, Some, List, ℕ, ◌-◌, ◌*◌, ◌^◌, ◌≤◌, ◌<◌, length, get_or}
+use Rattle.std.specs.Prelude.{◌≡◌, Some, List, ℕ, ◌-◌, ◌*◌, ◌≤◌, ◌<◌, length}
 use Rattle.rules.specs.declared.Crew.{Crew}
 use Rattle.rules.specs.Schedule.{by_size}
 use Rattle.rules.specs.Query.{Graph, Query}
@@ -20,15 +20,11 @@ query_at g scans r = record { graph = g; scans = scans; fixed = r.fixed.now; per
 abbrev pub query_by : Setting → List ℕ → Query
 query_by s scans = query_at s.footing.graph.now scans s.rates
 
--- a set that can be printed table by table
-abbrev pub Printable : ℕ → Type 0
-Printable S = S < 2 ^ 32
-
 -- a worker whose share and place can be printed
 pub record Shown (sets : List ℕ) (v : Worker) : Type 0 where
   pub share : v.share.from ≤ v.share.to
-  pub driving : (s : Spot) → v.place.pair ≡ Some s → (s.row < length sets) × Printable (get_or sets s.row 0)
-  pub inner : (s : Spot) → v.place.pair ≡ Some s → (s.inner < length sets) × Printable (get_or sets s.inner 0)
+  pub driving : (s : Spot) → v.place.pair ≡ Some s → s.row < length sets
+  pub inner : (s : Spot) → v.place.pair ≡ Some s → s.inner < length sets
 
 -- group k is to be opened
 pub record Between (q : Query) (crew : Crew) (k : ℕ) (workers : List Worker) (c : Columns) : Type 0 where

@@ -2,7 +2,7 @@
 // What it must print was worked out from document 01 apart from this code, and stands in `stdout`.
 #![tactic(auto)]
 
-ghost use Rattle.std.specs.Prelude.{◌≡◌, IfOk, IfSome, ℕ, ◌+◌, ◌-◌, ◌≤◌, ◌<◌, length, map, take};
+ghost use Rattle.std.specs.Prelude.{◌≡◌, IfOk, ℕ, ◌+◌, ◌-◌, ◌≤◌, ◌<◌, length, map, take};
 ghost use Rattle.rules.specs.declared.Shape.TheVariants.{Bushy};
 ghost use Rattle.rules.specs.Schedule.{by_size};
 ghost use Rattle.rules.specs.Query.{table_count};
@@ -11,7 +11,7 @@ ghost use Rattle.rules.specs.Estimate.{estimate};
 ghost use Rattle.turns.specs.Standing.{Work};
 ghost use Rattle.turns.specs.Taken.{columns_of};
 ghost use Rattle.crew.specs.Workers.{worker_at};
-ghost use Rattle.rounds.specs.Rounds.{query_at, query_by, Printable, Shown, Between, Within, Started};
+ghost use Rattle.rounds.specs.Rounds.{query_at, query_by, Shown, Between, Within, Started};
 
 use crew::whose::{entries_on, lowest, whose_turn};
 use crew::{Handed, Worker, nobody};
@@ -26,96 +26,40 @@ use results::keep::Columns;
 use results::price::Rates;
 use rows::tally::{Tally, count_rows};
 use rules::{Crew, Group, Scheme};
-use sets::{lowest_table, single};
-use shares::Share;
+use sets::shown::Tables;
 use starts::lay_starts;
 use std::io;
 use turns::scans::lay_scans;
 use turns::setting::Setting;
 use turns::turn::turn;
 
-fn put(rt: &impl Print, text: &[u8]) -> io::Result<()> {
-    rt.write_all(text)
-}
-
-// The tables of a set, ascending, with commas.
-fn print_set(rt: &impl Print, set: u64) -> io::Result<()>
-    requires { Printable set }
-{
-    let mut left = set;
-    while left != 0 {
-        let t = lowest_table(left);
-        rt.print(t)?;
-        left -= single(t);
-        if left != 0 {
-            put(rt, b",")?;
-        }
-    }
-    Ok(())
-}
-
-// A worker's cut of the candidates, which is its share under scheme 1.
-fn print_share(rt: &impl Print, share: Share) -> io::Result<()>
-    requires { share.from ≤ share.to }
-{
-    rt.print(share.worker as u64)?;
-    put(rt, b" has ")?;
-    rt.print((share.to - share.from) as u64)?;
-    put(rt, b"\n")
-}
-
 // Where a worker waits: the number of its next joinable pair, and the pair.
 fn print_place(rt: &impl Print, sets: &[u64], worker: Worker) -> io::Result<()>
     requires { Shown sets.now worker }
 {
-    rt.print(worker.share.worker as u64)?;
-    put(rt, b" waits at ")?;
-    rt.print(worker.place.number as u64)?;
-    let Some(spot) = worker.place.pair else {
-        return put(rt, b": none\n");
-    };
-    put(rt, b": ")?;
-    print_set(rt, sets[spot.row])?;
-    put(rt, b" ")?;
-    print_set(rt, sets[spot.inner])?;
-    put(rt, b"\n")
+    let number = worker.place.number;
+    match worker.place.pair {
+        None => println!(rt; "{} waits at {number}: none", worker.share.worker),
+        Some(spot) => println!(rt;
+            "{} waits at {number}: {} {}",
+            worker.share.worker,
+            Tables(sets[spot.row]),
+            Tables(sets[spot.inner])
+        ),
+    }
 }
 
 // What a turn of worker `w` handed, and the cost in the result's row after it.
-fn print_pair(rt: &impl Print, w: usize, pair: Option<Handed>) -> io::Result<()>
-    requires { IfSome pair (λ p. Printable p.driving × Printable p.inner) }
-{
-    rt.print(w as u64)?;
-    let Some(pair) = pair else {
-        return put(rt, b" joins none\n");
-    };
-    put(rt, b" joins ")?;
-    print_set(rt, pair.driving)?;
-    put(rt, b" ")?;
-    print_set(rt, pair.inner)?;
-    put(rt, b": ")?;
-    rt.print(pair.cost)?;
-    put(rt, b"\n")
-}
-
-// The workers' shares.
-fn print_shares(rt: &impl Print, workers: &[Worker]) -> io::Result<()>
-    requires { (w : ℕ) → w < length workers.now → (worker_at workers.now w).share.from ≤ (worker_at workers.now w).share.to }
-{
-    for worker in workers {
-        print_share(rt, worker.share)?;
+fn print_pair(rt: &impl Print, w: usize, pair: Option<Handed>) -> io::Result<()> {
+    match pair {
+        None => println!(rt; "{w} joins none"),
+        Some(pair) => println!(rt;
+            "{w} joins {} {}: {}",
+            Tables(pair.driving),
+            Tables(pair.inner),
+            pair.cost
+        ),
     }
-    Ok(())
-}
-
-// The workers' places.
-fn print_places(rt: &impl Print, sets: &[u64], workers: &[Worker]) -> io::Result<()>
-    requires { (w : ℕ) → w < length workers.now → Shown sets.now (worker_at workers.now w) }
-{
-    for worker in workers {
-        print_place(rt, sets, *worker)?;
-    }
-    Ok(())
 }
 
 // A size as it is opened; under scheme 1 with the workers' shares, which are cuts of its candidates.
@@ -128,13 +72,17 @@ fn print_size(
 ) -> io::Result<()>
     requires { (w : ℕ) → w < length workers.now → Shown sets.now (worker_at workers.now w) }
 {
-    put(rt, b"size ")?;
-    rt.print(size as u64)?;
-    put(rt, b"\n")?;
+    println!(rt; "size {size}")?;
     if scheme == Scheme::CutCandidates {
-        print_shares(rt, workers)?;
+        for worker in workers {
+            let share = worker.share;
+            println!(rt; "{} has {}", share.worker, share.to - share.from)?;
+        }
     }
-    print_places(rt, sets, workers)
+    for worker in workers {
+        print_place(rt, sets, *worker)?;
+    }
+    Ok(())
 }
 
 // Turns of group `k` until no worker has a pair left: first the entries of the list, of which `used` are used up, then the lowest-numbered
@@ -324,11 +272,7 @@ fn run(rt: &impl Print, scheme: Scheme, workers: u64, listed: usize) -> io::Resu
 fn run_named(rt: &impl Print, scheme: Scheme, workers: u64, listed: usize) -> io::Result<()>
     requires { listed ≤ 2 }
 {
-    put(rt, b"scheme ")?;
-    rt.print(u64::from(scheme))?;
-    put(rt, b" workers ")?;
-    rt.print(workers)?;
-    put(rt, b"\n")?;
+    println!(rt; "scheme {} workers {workers}", u64::from(scheme))?;
     run(rt, scheme, workers, listed)
 }
 

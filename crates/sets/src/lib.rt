@@ -5,6 +5,8 @@ ghost use Rattle.std.specs.Prelude.{◌≡◌, not, ◌+◌, ◌^◌, ◌<◌, �
 ghost use Rattle.rules.specs.Sets.{has, Disjoint, disjoint, size, single, tables, rank, Lowest};
 ghost use Rattle.rules.specs.Rows.{before};
 
+pub mod shown;
+
 // Whether table `t` stands in `s`.
 pub fn has_table(s: u64, t: u64) -> bool
     requires { (1 ≤ t) × (t ≤ 32) }

@@ -1,7 +1,6 @@
 use Rattle.std.proofs.Common.{arith}
 use Rattle.crew.proofs.Lowest.{lowest-some, none-left, lowest-part}
-use Rattle.turns.specs.Taken.{board-by}
-use Rattle.rounds.specs.RoundLaws.{whose-known, printable-pair, within-places, within-plays, turned-within, turned-less, closed-between}
+use Rattle.rounds.specs.RoundLaws.{whose-known, within-places, within-plays, turned-within, turned-less, closed-between}
 use Rattle.rounds.proofs.take_turns.Goals as goal
 
 pub turn-pair-requires-clause-open : goal.turn-pair-requires-clause-open
@@ -14,13 +13,6 @@ turn-pair-requires-clause-ready g c =
     let r = c.requires.group in
     let k = whose-known c.loop-low.used c.in-Some.low r.2 (lowest-some (lowest-part c.lowest.ensures) c.in-Some.is).0 c.whose_turn-w.ensures in
     (omega (arith, k, r.2.few-workers), (within-places r.2 r.0 r.1 c.by_size-group.ensures c.loop-low.invariant).ready _ k)
-
-pub print_pair-requires : goal.print_pair-requires
-print_pair-requires g c =
-    let r = c.requires.group in
-    let k = whose-known c.loop-low.used c.in-Some.low r.2 (lowest-some (lowest-part c.lowest.ensures) c.in-Some.is).0 c.whose_turn-w.ensures in
-    let b = board-by c.args.setting.now (within-plays r.2 r.0 r.1 c.by_size-group.ensures c.loop-low.invariant) in
-    printable-pair b c.turn-pair.ensures.taken ((within-places r.2 r.0 r.1 c.by_size-group.ensures c.loop-low.invariant).ready _ k)
 
 pub loop-low-smaller : goal.loop-low-smaller
 loop-low-smaller g c =
