@@ -11,7 +11,8 @@ use shares::places::{Place, nowhere};
 pub mod log;
 pub mod whose;
 
-// A worker of the table: its share of the group, its place, the memo row of its last result, how many pairs it was handed.
+// A worker of the table: its share of the group, its place, the memo row of its last result
+// (0 where it has none: any row is right to seek from), how many pairs it was handed.
 #[derive(Clone, Copy)]
 pub struct Worker {
     pub share: Share,

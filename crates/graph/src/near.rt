@@ -67,6 +67,7 @@ impl Neighbours {
     {
         let mut seen = single(lowest_table(goal));
         let mut todo = seen;
+        // No `for`: the flood takes tables off one number and puts others in.
         while overlap(goal, inside - seen) {
             if todo == 0 {
                 return false;

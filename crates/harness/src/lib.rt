@@ -52,7 +52,7 @@ fn numbers(planned: Result<Answer, Refusal>) -> [u64; NUMBERS]
     }
 }
 
-// Plans as `plan` does, and puts the answer's numbers into the first cells of `answer`; where they do not fit, nothing is done.
+// Lists stay apart here and below: C lends them so. Plans as `plan` does, and puts the answer's numbers into the first cells of `answer`; where they do not fit, nothing is done.
 #[unsafe(no_mangle)]
 pub extern "C" fn plan_columns(
     rows: &[u64],

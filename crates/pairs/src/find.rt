@@ -110,7 +110,7 @@ pub fn along(graph: &Graph, rows: &InnerRows, x: u64, own: Span) -> usize
 
 // From a driving row on, before which `ahead` candidates come, the worker's next joinable pair, or none: candidates are met smaller
 // size first, then driving row, then inner row.
-// Group and share are no struct with the footing: a share stands in the table of workers, and one more copy a turn would be work.
+// Group and share are no struct with the footing: a share stands in the table of workers, and a struct of all three would be made anew each turn.
 pub fn find(
     footing: &Footing,
     group: Group,

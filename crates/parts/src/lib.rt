@@ -54,6 +54,7 @@ fn by_linked(parts: &[u64; 256], t: u64, linked: u64, e: u64) -> u64
 {
     let mut r = e;
     let mut left = linked;
+    // No `for`: the tables are bits of a number, and are taken off it one after another.
     while left != 0 {
         let u = lowest_table(left);
         r = (r / parts[cell(t, u)]).max(1);

@@ -27,7 +27,7 @@ pub struct Answer {
     pub counts: [u64; 8],
 }
 
-// Plans a query in lent memory, or refuses it with a number and a place and nothing changed.
+// Its lists stay apart, since C lends them so and their order is fixed. Plans a query in lent memory, or refuses it with a number and a place and nothing changed.
 pub fn plan<'q, 'm, 'l>(
     rows: &'q [u64],
     scans: &'q [u64],

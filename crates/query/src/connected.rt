@@ -47,6 +47,7 @@ pub fn connected(graph: &Graph, s: u64) -> bool
         return false;
     }
     let mut part = single(lowest_table(s));
+    // No `for`: how often the part grows is not known.
     while part != s {
         let next = reach(graph, s, part);
         if next == part {

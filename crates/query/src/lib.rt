@@ -1,5 +1,5 @@
 // The questions that a checked query answers.
-// Each question takes the graph, whose four lent lists are good; what its answer means stands in crate rules.
+// A question about a graph takes it as one value, whose four lent lists are good; what an answer means stands in crate rules.
 #![tactic(auto)]
 
 pub mod connected;

@@ -48,7 +48,7 @@ fn check_table(rows: u64, scan: u64) -> Result<(), Reason>
     }
 }
 
-// Refusal 3 with its place.
+// Refusal 3 with its place. The lists stay apart here and below: they need only be of one length, and a checked type asks more.
 pub fn first_bad_table(rows: &[u64], scans: &[u64]) -> Result<(), Refusal>
     requires { length scans.now ≡ length rows.now }
     ensures { verdict_of result ≡ first_bad (bad_table rows.now scans.now) 0 (length rows.now) }
@@ -76,7 +76,10 @@ pub fn first_bad_method(
     requires { (length outer.now ≡ length fixed.now) × (length inner.now ≡ length fixed.now) × (length res.now ≡ length fixed.now) }
     ensures { verdict_of result ≡ first_bad (bad_method fixed.now outer.now inner.now res.now) 0 (length fixed.now) }
 {
-    first_bad(fixed.len(), |i| check_method(fixed[i], outer[i], inner[i], res[i]))
+    first_bad(
+        fixed.len(),
+        |i| check_method(fixed[i], outer[i], inner[i], res[i]),
+    )
 }
 
 // Whether edge `i` joins the two tables of an earlier edge.
@@ -136,7 +139,7 @@ pub fn first_bad_edge(
     first_bad(left.len(), |i| check_edge(rows, left, right, divisors, i))
 }
 
-// Refusal 12 with its place.
+// Refusal 12 with its place. A loop of its own: the edit place_off is about turns alone.
 pub fn first_bad_turn(workers: u64, turns: &[u64]) -> Result<(), Refusal>
     ensures { verdict_of result ≡ first_bad (bad_turn workers turns.now) 0 (length turns.now) }
 {
@@ -244,7 +247,7 @@ fn check_crew(workers: u64, scheme: u64, turns: &[u64]) -> Result<Crew, Refusal>
     Ok(crew)
 }
 
-// Refusals 1 to 12: the first that applies, with its place, or the crew that the numbers name.
+// Workers and scheme come as numbers from C. Refusals 1 to 12: the first that applies, with its place, or the crew that the numbers name.
 pub fn check(
     query: &Query,
     workers: u64,

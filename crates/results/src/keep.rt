@@ -15,7 +15,7 @@ pub struct Columns<'a> {
 }
 
 impl<'a> Columns<'a> {
-    // The row keeps the better of what it holds and `choice`; a row without an outer set holds nothing yet. The cost that it then has.
+    // An outer set 0, and no Option, is what the lent columns say of such a row. The row keeps the better of what it holds and `choice`; a row without an outer set holds nothing yet. The cost that it then has.
     pub fn keep(&mut self, row: usize, choice: Choice) -> u64
         requires { (row < length self.old.costs.now) × (row < length self.old.outers.now) × (row < length self.old.methods.now) }
         ensures cost { result ≡ (kept (held_at self.old row) (choice_of choice)).cost }

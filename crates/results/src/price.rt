@@ -40,7 +40,7 @@ pub struct Rates<'a> {
 }
 
 // More than there are methods: a price and a method's number stand in one number, which is the less the less the price is, then the
-// method.
+// method: so two methods are compared at once, without a branch.
 const SHIFT: u64 = 8;
 
 impl<'a> Rates<'a> {

@@ -11,7 +11,7 @@ use graph::near::Neighbours;
 use query::graph::Graph;
 use sets::single;
 
-// Room for a number of each size: sizes 0 to N, of at most 16 tables.
+// Room for a number of each size: sizes 0 to N, of at most 16 tables. Arrays here and above are fixed: the library has no heap.
 pub const SIZES: usize = 17;
 
 // A graph with how many rows of each size its memo has: size k's number stands at k.

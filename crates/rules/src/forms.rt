@@ -1,7 +1,7 @@
 // What the text of document 01 is made of: kinds of lines, and numbers.
 
 // "T lines first ..; then M, E, and one W."
-#[derive(Clone, Copy, Debug, PartialEq, Eq, PartialOrd, Ord)]
+#[derive(Clone, Copy, Debug, PartialEq, Eq)]
 pub enum Kind {
     Table,
     Method,

@@ -26,7 +26,7 @@ pub enum Reason {
     LineExcess,
 }
 
-// "A refusal gives its number and place."
+// "All return the number, the place and zeros": a refusal is a reason, which has the number, and a place.
 #[derive(Clone, Copy, Debug, PartialEq, Eq)]
 pub struct Refusal {
     pub reason: Reason,
@@ -34,6 +34,7 @@ pub struct Refusal {
 }
 
 impl Reason {
+    // 01's number. No `From`: `reason.number()` says what the number is, `u64::from(reason)` does not.
     pub fn number(self) -> u64
         ensures { result ≡ number_of self }
     {

@@ -15,14 +15,14 @@ pub struct Lent {
     pub log: usize,
 }
 
-// An answer as it is compared: refusal, place, best cost, rows, skip cells, pairs; and the pairs of each worker.
+// An answer as it is compared, number by number: refusal, place, best cost, rows, skip cells, pairs; and the pairs of each worker.
 #[derive(Clone, Copy)]
 pub struct Numbers {
     pub shared: [u64; 6],
     pub counts: [u64; 8],
 }
 
-// Memory lent to planning.
+// Memory lent to planning. Not shared with `cases`, which lends likewise: this program stands by itself.
 #[derive(Drop)]
 pub struct Memory {
     pub sets: Vec<u64>,

@@ -28,6 +28,7 @@ fn row_of(sets: &[u64], set: u64) -> usize
     ensures { (result < length sets.now) × (get_or sets.now result 0 ≡ set) }
 {
     let Some(row) = sets.iter().position(|&s| s == set) else {
+        // The clause says that the set has a row.
         unreachable!()
     };
     row

@@ -17,7 +17,7 @@ fn put_field(line: &mut Line, n: u64)
     line.put_number(n);
 }
 
-// A blank and a set.
+// A blank and a set: two lines like those above, of another call.
 fn put_set_field(line: &mut Line, n: u64, set: u64)
     requires { (line.old.at + length (blank ∷ set_text n set) ≤ length line.old.out.now) × (n ≤ 32) }
     ensures { Put line.old line.new (blank ∷ set_text n set) }
