@@ -1,8 +1,8 @@
 -- Laws that no proof cites any more, since the check finds their goals: they hold as before.
 use Rattle.std.specs.Prelude.{◌≡◌, List, length, get_or, set}
-use Rattle.std.proofs.Math.Path.{refl, sym, ap}
+use Rattle.std.proofs.Math.Path.{ap}
 use Rattle.std.proofs.Common.{◌∙◌, mul-le-mul, arith, pow_mono, get_or-set_same, get_or-set_other}
-use Prim.Native.Nat.{ℕ, ◌+◌, ◌-◌, ◌*◌, ◌^◌, ◌≤◌, ◌<◌, min, max}
+use Prim.Native.Nat.{ℕ, ◌+◌, ◌-◌, ◌*◌, ◌≤◌, ◌<◌, min, max}
 use Rattle.std.proofs.Math.Decide.{ℕ_discrete}
 use Rattle.rules.specs.Limits.{max_tables, max_rows, max_estimate}
 use Rattle.rules.specs.Sets.{Lowest}

@@ -1,6 +1,5 @@
 -- Laws that no proof cites any more, since the check finds their goals: they hold as before.
 use Rattle.std.specs.Prelude.{◌≡◌, Bool, true, false, ◌&&◌, ◌||◌, ℕ, ◌<◌, ◌≤◌, length}
-use Rattle.std.proofs.Math.Path.{refl}
 use Rattle.std.proofs.Common.{sym, ◌∙◌, arith}
 use Rattle.rules.specs.Lists.{is_yes}
 use Rattle.rules.specs.Query.{Graph}

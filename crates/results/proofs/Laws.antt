@@ -52,7 +52,6 @@ module _ (costs outers methods : List ℕ) (row : ℕ) (new : rules.Choice) wher
   pub row-taken : keeps ≡ new → (new.cost ≡ keeps.cost) × ((set costs row new.cost ≡ set costs row keeps.cost) × ((set outers row new.outer ≡ set outers row keeps.outer) × (set methods row new.method ≡ set methods row keeps.method)))
   row-taken e = rw e (refl, (refl, (refl, refl)))
 
-
 -- ---- the best way to join two sets
 -- a packed price and its method, as a choice
 abbrev unpack : ℕ → ℕ → ℕ → rules.Choice
