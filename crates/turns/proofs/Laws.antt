@@ -1,5 +1,5 @@
 -- Laws that no proof cites any more, since the check finds their goals: they hold as before.
-use Rattle.std.specs.Prelude.{◌≡◌, Option, Some, List, map, ℕ, ◌+◌, ◌-◌, ◌*◌, ◌^◌, ◌≤◌, ◌<◌, length, get_or, set, take}
+use Rattle.std.specs.Prelude.{◌≡◌, Option, Some, None, List, map, ℕ, ◌+◌, ◌-◌, ◌*◌, ◌^◌, ◌≤◌, ◌<◌, length, get_or, set, take}
 use Rattle.std.proofs.Common.{sym, ap, ◌∙◌, add-one, arith, length-take, take-suc, get_or-set_same, Fits}
 use Rattle.std.specs.Int.{w64}
 use Rattle.rules.specs.Limits.{max_tables, cost_bound}
@@ -19,7 +19,7 @@ use Rattle.crew.specs.Workers.{nobody, worker_at}
 use Rattle.shares.specs.declared.places.Spot.{Spot}
 use Rattle.shares.specs.Shares.{few}
 use Rattle.pairs.specs.Places.{Fit, Ground}
-use Rattle.turns.specs.Standing.{Columns, row_in, top_of, Reach, Open, Board, Ready, StepTaken, TurnTaken}
+use Rattle.turns.specs.Standing.{Columns, row_in, top_of, Reach, Board, Ready, StepTaken, TurnTaken}
 use Rattle.turns.specs.StepLaws.{cost-bounds}
 use Rattle.turns.specs.StartLaws.{methods-of, open-of}
 
@@ -49,6 +49,10 @@ board-of {q} {group = group} {c = c} p fit top reach final = record {
   reach = reach;
   below = (open-of p.sound fit top reach final).below;
 }
+
+-- what a turn with no pair left answers
+abbrev pub no_pair : Option code.Handed
+no_pair = None
 
 -- the worker that is read is ready
 pub ready_read : {g : Graph} {group : Group} (workers : List Worker) (w : ℕ) (v : Worker) → v ≡ worker_at workers w → Ready g group (worker_at workers w) → Ready g group v
