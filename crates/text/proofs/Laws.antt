@@ -9,7 +9,7 @@ use Rattle.rules.specs.Refusals.{Input, verdict}
 use Rattle.rules.specs.Text.{text_input, input_for, input_of, text_verdict, Written}
 use Rattle.query.specs.Lists.{query_of}
 use Rattle.fields.specs.declared.kinds.Progress.{Progress}
-use Rattle.reader.specs.Lists.{Lists, lists}
+use Rattle.reader.specs.Lists.{lists}
 use Rattle.reader.specs.Records.{read_of}
 use Rattle.digits.specs.declared.Line.{Line}
 use Rattle.text.specs.Composing.{Composed}
