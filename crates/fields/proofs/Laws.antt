@@ -1,6 +1,6 @@
 -- Laws that no proof cites any more, since the check finds their goals: they hold as before.
 use Rattle.std.specs.Prelude.{◌≡◌, refl, ◌⊎◌, Bool, true, false, cond, not, ◌&&◌, List, [], ◌∷◌, ℕ, zero, suc, ◌≤◌, ◌<◌, ◌+◌, ◌*◌, ◌-◌, ◌^◌, eqb, ltb, leb, length, take, drop, get_or, None, Option, Some, Result, Ok, Err}
-use Rattle.std.proofs.Common.{sym, ◌∙◌, ap, inl, inr, zero-add, add-one, sub-one, arith, lit≤, length-drop, drop_of_length-le, drop-cons, eq-eqb, ne_eqb}
+use Rattle.std.proofs.Common.{sym, ◌∙◌, ap, inl, inr, zero-add, add-one, sub-one, pow-suc, arith, lit≤, length-drop, drop_of_length-le, drop-cons, eq-eqb, ne_eqb}
 use Rattle.std.proofs.Math.Nat.{pow-le-pow_right}
 use borrow.Author.Tests.{lt-ltb, le-ltb, le-leb, lt-leb}
 use Rattle.rules.specs.declared.forms.Kind.{Kind}
@@ -138,6 +138,10 @@ module _ (s : List ℕ) (v i : ℕ) (l : i < length s) where
 
   pub digits-high : zero_digit + 9 < b → digits_from v (drop i s) ≡ None
   digits-high h = opened-digit ∙ rw (le-leb zero_digit b (omega arith), lt-leb b (zero_digit + 9) h)
+
+-- a value of i digits is below 10 ^ i
+pub power-next : (v i b : ℕ) → v < 10 ^ i → b ≤ zero_digit + 9 → v * 10 + (b - zero_digit) < 10 ^ (i + 1)
+power-next v i b h k = rw (add-one, pow-suc) (omega arith)
 
 -- a value of i digits and one digit more is no overflow
 pub power-room : (v i n : ℕ) → i < n → n ≤ max_digits → v < 10 ^ i → v < 1000000000
