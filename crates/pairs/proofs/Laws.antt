@@ -1,6 +1,6 @@
 -- Laws that no proof cites any more, since the check finds their goals: they hold as before.
-use Rattle.std.specs.Prelude.{◌≡◌, refl, true, false, List, ℕ, zero, suc, ◌+◌, ◌-◌, ◌*◌, ◌≤◌, ◌<◌, get_or}
-use Rattle.std.proofs.Common.{add-one, mul-suc, arith, Fits}
+use Rattle.std.specs.Prelude.{◌≡◌, refl, true, false, List, ℕ, zero, suc, ◌+◌, ◌-◌, ◌*◌, ◌/◌, ◌≤◌, ◌<◌, get_or}
+use Rattle.std.proofs.Common.{sym, ◌∙◌, ap₂, add-one, mul-suc, arith, Fits}
 use Rattle.std.specs.Int.{w64}
 use Rattle.rules.specs.Query.{Graph, table_count}
 use Rattle.rules.specs.declared.Group.{Group}
@@ -8,9 +8,10 @@ use Rattle.rules.specs.Schedule.{inner_at}
 use Rattle.rules.specs.Checked.{GoodGraph}
 use Rattle.shares.specs.declared.Share.{Share}
 use Rattle.shares.specs.Shares.{few}
-use Rattle.pairs.specs.Places.{Drives, Ground, start_of, RowFrom, Countable, count_at, count_to}
+use Rattle.pairs.specs.Places.{Drives, Ground, start_of, RowFrom, Countable, rows_of_size, count_at, count_to}
 use Rattle.pairs.specs.PlaceLaws.{drives}
 use Rattle.pairs.specs.FindLaws.{Clear, Sized}
+use Rattle.pairs.specs.FindLaws as find
 
 -- ---- the search's rows
 pub clear_none : (g : Graph) (group : Group) (h : Share) (x : ℕ) → Clear g group h x x
@@ -36,6 +37,13 @@ le-square (suc n) = omega (arith, mul-suc (suc n) n)
 pub count-more : (starts : List ℕ) (group : Group) (k : ℕ) → count_to starts group (k + 1) ≡ count_to starts group k + count_at starts group (k + 1)
 unfolding count_to
 count-more starts group k = rw (add-one k)
+
+-- one more driving size, which is the inner size, or less
+pub count_same : (starts : List ℕ) (group : Group) (k : ℕ) {n m wide : ℕ} → wide ≡ inner_at group (k + 1) → n ≡ count_to starts group k → k + 1 ≡ wide → m ≡ n + (rows_of_size starts (k + 1) * rows_of_size starts (k + 1) - rows_of_size starts (k + 1)) / 2 → m ≡ count_to starts group (k + 1)
+count_same starts group k we e h i = i ∙ ap₂ (λ (a b : ℕ). a + b) e (find.count_same starts group we h refl) ∙ sym (count-more starts group k)
+
+pub count_less : (starts : List ℕ) (group : Group) (k wide : ℕ) {n m : ℕ} → wide ≡ inner_at group (k + 1) → n ≡ count_to starts group k → (k + 1 ≡ wide → ⊥) → m ≡ n + rows_of_size starts (k + 1) * rows_of_size starts wide → m ≡ count_to starts group (k + 1)
+count_less starts group k wide we e h i = i ∙ ap₂ (λ (a b : ℕ). a + b) e (find.count_less starts group we h refl) ∙ sym (count-more starts group k)
 
 -- ---- numbers that fit
 pub few-fit : {n : ℕ} → n ≤ few → Fits w64 n

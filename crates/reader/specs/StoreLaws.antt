@@ -61,13 +61,13 @@ module _ (p : Progress) (kind : Kind) (x : excess kind p.tables p.methods p.edge
   edge_more k = let y : leb max_edge_lines p.edges ≡ false = rw k at x in leb-false max_edge_lines p.edges y
 
   module _ (a : Lists) (room : Room a) where
-    table_fits : kind ≡ Table → (p.tables < length a.rows) × (p.tables < length a.scans)
+    pub table_fits : kind ≡ Table → (p.tables < length a.rows) × (p.tables < length a.scans)
     table_fits k = let m = table_more k in (omega (arith, room.rows_fit), omega (arith, room.scans-fit))
 
-    method-fits : kind ≡ Method → (p.methods < length a.fixed) × (p.methods < length a.per_outer) × (p.methods < length a.per_inner) × (p.methods < length a.per_result)
+    pub method-fits : kind ≡ Method → (p.methods < length a.fixed) × (p.methods < length a.per_outer) × (p.methods < length a.per_inner) × (p.methods < length a.per_result)
     method-fits k = let m = method-more k in (omega (arith, room.fixed-fit), omega (arith, room.outer-fit), omega (arith, room.inner-fit), omega (arith, room.result-fit))
 
-    edge-fits : kind ≡ Edge → (p.edges < length a.left) × (p.edges < length a.right) × (p.edges < length a.divisors)
+    pub edge-fits : kind ≡ Edge → (p.edges < length a.left) × (p.edges < length a.right) × (p.edges < length a.divisors)
     edge-fits k = let m = edge_more k in (omega (arith, room.left-fit), omega (arith, room.right-fit), omega (arith, room.divisors-fit))
 
 -- where there is room, what is stored is held

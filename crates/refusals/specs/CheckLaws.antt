@@ -140,7 +140,7 @@ module _ (g : Graph) (i : ℕ) where
 
   -- the edge by itself, and then whether it repeats one
   module _ (made : Result Edge EdgeFault) (is_made : made ≡ new_edge (table_count g) (get_or g.left i 0) (get_or g.right i 0) (get_or g.divisors i 0)) where
-    edge-bad : (n : ℕ) → edge_number made ≡ suc n → suc n ≡ bad_edge g i
+    pub edge-bad : (n : ℕ) → edge_number made ≡ suc n → suc n ≡ bad_edge g i
     unfolding bad_edge edge_or
     edge-bad n e = rw (← is_made, e)
 

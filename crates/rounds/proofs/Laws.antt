@@ -12,12 +12,13 @@ use Rattle.rules.specs.Rows.{memo}
 use Rattle.rules.specs.Checked.{GoodGraph}
 use Rattle.rules.specs.laws.Lists.{at_in}
 use Rattle.rules.proofs.laws.Rows.{memo-only, below_all}
+use Rattle.rules.specs.laws.Choice.{kept}
 use Rattle.shares.specs.Nowhere.{left}
 use Rattle.shares.specs.declared.places.Spot.{Spot}
 use Rattle.crew.specs.declared.Worker.{Worker}
 use Rattle.crew.specs.declared.Handed as code
 use Rattle.crew.specs.Workers.{nobody, worker_at}
-use Rattle.turns.specs.Standing.{Columns, Reach, Final, Board, Ready, InPlace, TurnTaken}
+use Rattle.turns.specs.Standing.{Columns, choice_in, Reach, Final, Board, Ready, InPlace, pair_at, handed_pair, TurnTaken}
 use Rattle.turns.specs.StepLaws.{set_at, driving-inside, inner-inside}
 use Rattle.rounds.specs.Rounds.{Between}
 
@@ -42,8 +43,9 @@ module _ {g : Graph} {fixed outer inner result sets estimates cells starts cell_
       → (h : code.Handed) → pair ≡ Some h → Printable h.driving × Printable h.inner
   printable-pair t r some h e =
       let s = t.step.some some in
-      let D : h.driving ≡ get_or (memo g) s.spot.row 0 = ap (λ (p : code.Handed). p.driving) (same_Some (sym e ∙ s.answer)) in
-      let I : h.inner ≡ get_or (memo g) s.spot.inner 0 = ap (λ (p : code.Handed). p.inner) (same_Some (sym e ∙ s.answer)) in
+      let a : h ≡ handed_pair (pair_at g s.spot) (kept (choice_in c s.row) s.offer).cost = same_Some _ _ (sym e ∙ s.answer) in
+      let D : h.driving ≡ get_or (memo g) s.spot.row 0 = ap (λ (p : code.Handed). p.driving) a in
+      let I : h.inner ≡ get_or (memo g) s.spot.inner 0 = ap (λ (p : code.Handed). p.inner) a in
       (rw D (printable-row g b.graph _ (driving-inside b r s.at)), rw I (printable-row g b.graph _ (inner-inside b r s.at)))
 
 -- before the first group nothing was handed
