@@ -1,5 +1,5 @@
 -- Laws that no proof cites any more, since a set prints whatever it is: they hold as before.
-use Rattle.std.specs.Prelude.{◌≡◌, Bool, true, false, Option, Some, List, ℕ, ◌+◌, ◌*◌, ◌^◌, ◌≤◌, ◌<◌, length, get_or, replicate}
+use Rattle.std.specs.Prelude.{◌≡◌, Bool, true, false, Option, Some, List, ℕ, ◌+◌, ◌-◌, ◌*◌, ◌^◌, ◌≤◌, ◌<◌, length, get_or, replicate}
 use Rattle.std.proofs.Common.{sym, ap, ◌∙◌, arith, pow_mono}
 use Rattle.std.proofs.lemmas.Option.{same_Some}
 use Rattle.std.proofs.lemmas.List.{get_or-replicate}
@@ -18,9 +18,11 @@ use Rattle.shares.specs.declared.places.Spot.{Spot}
 use Rattle.crew.specs.declared.Worker.{Worker}
 use Rattle.crew.specs.declared.Handed as code
 use Rattle.crew.specs.Workers.{nobody, worker_at}
-use Rattle.turns.specs.Standing.{Columns, choice_in, Reach, Final, Board, Ready, InPlace, pair_at, handed_pair, TurnTaken}
+use Rattle.turns.specs.Standing.{Columns, choice_in, Reach, Final, Board, Ready, InPlace, pair_at, handed_pair, TurnTaken, Work}
+use Rattle.turns.specs.StandingLaws.{top-is, fit_is}
+use Rattle.turns.proofs.Laws.{Prepared, board-of}
 use Rattle.turns.specs.StepLaws.{set_at, driving-inside, inner-inside}
-use Rattle.rounds.specs.Rounds.{Between}
+use Rattle.rounds.specs.Rounds.{Between, Within}
 
 -- a set that can be printed table by table
 abbrev pub Printable : ℕ → Type 0
@@ -51,3 +53,10 @@ module _ {g : Graph} {fixed outer inner result sets estimates cells starts cell_
 -- before the first group nothing was handed
 pub first-between : {q : Query} {crew : Crew} {c : Columns} {v : Worker} → crew.workers ≤ max_workers → v ≡ nobody → Reach q.graph c → Final q crew (by_size q.shape) 1 c → Between q crew 1 (replicate 8 v) c
 first-between {v = v} few-workers e r f = record { reach = r; final = f; handed = λ w l. omega (arith, ap (λ (x : Worker). x.handed) (get_or-replicate 8 w v nobody (omega arith) ∙ e)) }
+
+-- a turn of an open group may be taken
+pub within-board : {q : Query} {crew : Crew} {turns : List ℕ} → Work q crew (by_size q.shape) turns → {k : ℕ} → 1 ≤ k → k ≤ table_count q.graph - 1 → {group : Group} → group ≡ by_size q.shape k → {workers : List Worker} {c : Columns} → Within q crew k workers c
+    → {sets estimates cells starts cell_starts : List ℕ} → Prepared q sets estimates cells starts cell_starts → Board q.graph q.fixed q.per_outer q.per_inner q.per_result sets estimates cells starts cell_starts group c
+within-board work one known is z p =
+    let e = top-is work one known in
+    rw is (board-of p (fit_is work one known) (omega (arith, e)) z.reach (λ S d l. z.standing.rows.final S d (omega (arith, e))))
