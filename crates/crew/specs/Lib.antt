@@ -1,5 +1,5 @@
--- The table of workers, whose turn it is, the log and the counts, and the laws that the proofs cite.
+-- The table of workers with the counts, whose turn it is, and the log.
 pub mod Workers
 pub mod Whose
 pub mod Logs
-pub mod LeafLaws
+pub mod Lent

@@ -1,5 +1,5 @@
 -- The log, and one entry more.
-use Rattle.std.specs.Prelude.{◌≡◌, cond, List, [], ℕ, ◌+◌, length, set}
+use Rattle.std.specs.Prelude.{◌≡◌, List, [], ℕ, ◌+◌, length, set, Option, Some, None}
 use Rattle.rules.specs.Refusals.{Memory}
 use Rattle.crew.specs.declared.Handed as code
 
@@ -25,8 +25,10 @@ pub record LogFits (l : Memory) : Type 0 where
   pub costs : length l.log_costs ≡ length l.log_workers
 
 -- with a pair or without one
-abbrev pub noted_if : Memory → ℕ → ℕ → code.Handed → Memory
-noted_if l j w p = cond p.found (noted l j w p) l
+abbrev pub noted_if : Memory → ℕ → ℕ → Option code.Handed → Memory
+noted_if l j w (Some p) = noted l j w p
+noted_if l j w None = l
 
-abbrev pub count_if : ℕ → code.Handed → ℕ
-count_if j p = cond p.found (j + 1) j
+abbrev pub count_if : ℕ → Option code.Handed → ℕ
+count_if j (Some p) = j + 1
+count_if j None = j

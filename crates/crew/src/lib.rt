@@ -7,14 +7,12 @@ ghost use Rattle.crew.specs.Workers.{nobody, counts_of};
 use rules::Scheme;
 use shares::Share;
 use shares::places::{Place, nowhere};
-use table::worker_at;
 
-pub mod lent;
 pub mod log;
-pub mod table;
 pub mod whose;
 
-// A worker of the table: its share of the group, its place, the memo row of its last result, how many pairs it was handed.
+// A worker of the table: its share of the group, its place, the memo row of its last result
+// (0 where it has none: any row is right to seek from), how many pairs it was handed.
 #[derive(Clone, Copy)]
 pub struct Worker {
     pub share: Share,
@@ -23,10 +21,9 @@ pub struct Worker {
     pub handed: u64,
 }
 
-// The pair that a turn handed and the cost in its result's row after the turn, or none and zeros.
+// The pair that a turn handed, and the cost in its result's row after the turn.
 #[derive(Clone, Copy)]
 pub struct Handed {
-    pub found: bool,
     pub driving: u64,
     pub inner: u64,
     pub cost: u64,
@@ -36,16 +33,15 @@ pub struct Handed {
 pub fn nobody() -> Worker
     ensures { result ≡ nobody }
 {
-    let share = Share {
-        scheme: Scheme::CutCandidates,
-        workers: 0,
-        worker: 0,
-        total: 0,
-        from: 0,
-        to: 0,
-    };
     Worker {
-        share: share,
+        share: Share {
+            scheme: Scheme::CutCandidates,
+            workers: 0,
+            worker: 0,
+            total: 0,
+            from: 0,
+            to: 0,
+        },
         place: nowhere(0),
         last: 0,
         handed: 0,
@@ -53,13 +49,8 @@ pub fn nobody() -> Worker
 }
 
 // How many pairs each of eight workers was handed.
-pub fn counts_of(workers: [Worker; 8]) -> [u64; 8]
-    ensures { result ≡ counts_of workers }
+pub fn counts_of(workers: &[Worker; 8]) -> [u64; 8]
+    ensures { result ≡ counts_of workers.now }
 {
-    let mut counts = [0u64; 8];
-    for w in 0..8usize {
-        let worker = worker_at(workers, w);
-        counts[w] = worker.handed;
-    }
-    counts
+    workers.map(|worker| worker.handed)
 }

@@ -1,6 +1,7 @@
 -- The digits of a number: one below ten, and otherwise those of its tenth and one more.
 use Rattle.std.specs.Prelude.{◌≡◌, refl, Bool, true, false, cond, List, [], ◌∷◌, ◌++◌, ℕ, zero, suc, ◌+◌, ◌/◌, ◌%◌, ◌≤◌, ◌<◌, ltb, length}
 use Rattle.std.proofs.Common.{ap, not-suc-le-zero, arith, length-append, lt-ltb, le-ltb}
+use Rattle.digits.specs.declared.Line.{Line}
 use Rattle.digits.specs.PutLaws.{room-first, room_of}
 use Rattle.rules.specs.Lines.{zero_digit}
 use Rattle.rules.specs.Writing.{digits_by, digits_of}
@@ -15,10 +16,10 @@ by-enough (suc k) zero zero h g = refl
 by-enough (suc k) zero (suc n) h g = absurd (not-suc-le-zero g)
 by-enough (suc k) (suc j) n h g = ap (λ (u : List ℕ). cond (ltb n 10) ((zero_digit + n) ∷ []) (u ++ (zero_digit + n % 10) ∷ [])) (by-enough k j (n / 10) (omega arith) (omega arith))
 
-pub digits-one : (n : ℕ) → n < 10 → (zero_digit + n) ∷ [] ≡ digits_of n
+pub digits-one : (n : ℕ) → n < 10 → (zero_digit + n % 10) ∷ [] ≡ digits_of n
 unfolding digits_of digits_by
 digits-one zero h = refl
-digits-one (suc n) h = rw (lt-ltb (suc n) 10 h)
+digits-one (suc n) h = let e : suc n % 10 ≡ suc n = omega arith in rw (lt-ltb (suc n) 10 h, e)
 
 pub digits_more : (n : ℕ) → 10 ≤ n → digits_of (n / 10) ++ (zero_digit + n % 10) ∷ [] ≡ digits_of n
 unfolding digits_of digits_by
@@ -39,10 +40,6 @@ pub digits-some : (n : ℕ) → 0 < length (digits_of n)
 unfolding digits_of
 digits-some n = by-some n n
 
--- the tenth is a smaller number
-pub tenth-less : (n t : ℕ) → 10 ≤ n → n ≡ t → n / 10 < t
-tenth-less n t h e = omega arith
-
--- and has room where the number has
-pub tenth-room : (at room n : ℕ) → 10 ≤ n → at + length (digits_of n) ≤ room → at + length (digits_of (n / 10)) ≤ room
-tenth-room at room n h l = room-first (digits_of (n / 10)) ((zero_digit + n % 10) ∷ []) (room_of (digits_more n h) l)
+-- the tenth has room where the number has
+pub tenth-room : (a : Line) (n : ℕ) → 10 ≤ n → a.at + length (digits_of n) ≤ length a.out.now → a.at + length (digits_of (n / 10)) ≤ length a.out.now
+tenth-room a n h l = room-first (digits_of (n / 10)) ((zero_digit + n % 10) ∷ []) (room_of a (digits_more n h) l)

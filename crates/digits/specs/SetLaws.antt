@@ -1,9 +1,11 @@
 -- The text of a set grows by its tables, from table 1 on.
 use Rattle.std.specs.Prelude.{◌≡◌, refl, Bool, true, false, cond, List, [], ◌∷◌, ◌++◌, map, ℕ, zero, suc, ◌+◌, ◌-◌, ◌/◌, ◌%◌, ◌≤◌, ◌<◌, eqb, ltb, length}
 use Rattle.std.proofs.Common.{sym, ap, ◌∙◌, append-nil, append_assoc, not-suc-le-zero, add-zero, add-suc, one-add, arith, length-append, lt-ltb, le-ltb}
+use Rattle.std.proofs.lemmas.List.{map-append}
 use Rattle.rules.specs.Sets.{has, tables_from, tables}
 use Rattle.rules.specs.Writing.{comma, digits_of, follow, joined, set_text}
 use Rattle.rules.specs.laws.Sets.{bit, holds-bit}
+use Rattle.digits.specs.declared.Line.{Line}
 use Rattle.digits.specs.Put.{Put}
 use Rattle.digits.specs.SetText.{table_text}
 use Rattle.digits.specs.PutLaws.{put-none, put_then, put_as, room-then, room_of}
@@ -44,10 +46,6 @@ joined-one : (by : ℕ) (r : List ℕ) → joined by (r ∷ []) ≡ r
 unfolding joined follow
 joined-one by r = append-nil r
 
-map-append : (xs ys : List ℕ) → map digits_of (xs ++ ys) ≡ map digits_of xs ++ map digits_of ys
-map-append [] ys = refl
-map-append (x ∷ xs) ys = ap (λ (l : List (List ℕ)). digits_of x ∷ l) (map-append xs ys)
-
 abbrev text_of : List ℕ → List ℕ
 text_of ts = joined comma (map digits_of ts)
 
@@ -61,7 +59,7 @@ text-more : (ts : List ℕ) (t : ℕ) → text_of (ts ++ (t ∷ [])) ≡ text_of
 unfolding joined
 text-more [] t = joined-one comma (digits_of t)
 text-more (x ∷ ts) t =
-    ap (joined comma) (map-append (x ∷ ts) (t ∷ [])) ∙ joined-last comma (digits_of x) (digits_of t) (map digits_of ts) ∙ rw (lt-ltb 0 (length (text_of (x ∷ ts))) (text-some x ts)) refl
+    ap (joined comma) (map-append digits_of (x ∷ ts) (t ∷ [])) ∙ joined-last comma (digits_of x) (digits_of t) (map digits_of ts) ∙ rw (lt-ltb 0 (length (text_of (x ∷ ts))) (text-some x ts)) refl
 
 text-step : (b : Bool) (ts : List ℕ) (t : ℕ) → text_of (ts ++ only b t) ≡ text_of ts ++ cond b (cond (ltb 0 (length (text_of ts))) (comma ∷ digits_of t) (digits_of t)) []
 text-step true ts t = text-more ts t
@@ -87,27 +85,28 @@ set-le k n S l = let e : k + (n - k) ≡ n = omega arith in rw e at (set-grows k
 set_next : (at end k S : ℕ) → end ≡ at + length (set_text k S) → set_text k S ++ table_text S (suc k) (ltb at end) ≡ set_text (suc k) S
 set_next at end k S e = rw (some-behind at end (set_text k S) e) (sym (set-suc k S))
 
-pub set-start : (a : List ℕ) (at S : ℕ) → Put a a at at (set_text 0 S)
+pub set-start : (a : Line) (S : ℕ) → Put a a (set_text 0 S)
 unfolding set_text tables tables_from joined
-set-start a at S = put-none a at
+set-start a S = put-none a
 
-pub set-step : {a b c : List ℕ} {at end r : ℕ} (S t : ℕ) → 1 ≤ t → Put a b at end (set_text (t - 1) S) → Put b c end r (table_text S t (ltb at end)) → Put a c at r (set_text (t + 1 - 1) S)
+pub set-step : {a b c : Line} (S t : ℕ) → 1 ≤ t → Put a b (set_text (t - 1) S) → Put b c (table_text S t (ltb a.at b.at)) → Put a c (set_text (t + 1 - 1) S)
 set-step S zero l p s = absurd (not-suc-le-zero l)
-set-step {at = at} {end = end} S (suc k) l p s =
+set-step {a} {b} S (suc k) l p s =
     let e : suc k - 1 ≡ k = omega arith in
+    let p' : Put a b (set_text k S) = rw e at p in
     let f : suc k + 1 - 1 ≡ suc k = omega arith in
-    let p' : Put _ _ at end (set_text k S) = rw e at p in
-    rw f (put_as (set_next at end k S p'.end) (put_then p' s))
+    rw f (put_as (set_next a.at b.at k S p'.end) (put_then p' s))
 
-pub table-room : {a b : List ℕ} {at end : ℕ} (n S t : ℕ) → 1 ≤ t → t ≤ n → Put a b at end (set_text (t - 1) S) → at + length (set_text n S) ≤ length a → end + length (table_text S t (ltb at end)) ≤ length b
+pub table-room : {a b : Line} (n S t : ℕ) → 1 ≤ t → t ≤ n → Put a b (set_text (t - 1) S) → a.at + length (set_text n S) ≤ length a.out.now → b.at + length (table_text S t (ltb a.at b.at)) ≤ length b.out.now
 table-room n S zero l k p r = absurd (not-suc-le-zero l)
-table-room {a} {b} {at} {end} n S (suc i) l k p r =
+table-room {a} {b} n S (suc i) l k p r =
     let e : suc i - 1 ≡ i = omega arith in
-    let p' : Put a b at end (set_text i S) = rw e at p in
-    let x = set_next at end i S p'.end in
-    (room-then (table_text S (suc i) (ltb at end)) p' (room_of x (omega (arith, set-le (suc i) n S k)))).left
+    let p' : Put a b (set_text i S) = rw e at p in
+    let x = set_next a.at b.at i S p'.end in
+    (room-then (table_text S (suc i) (ltb a.at b.at)) p' (room_of _ x (omega (arith, set-le (suc i) n S k)))).left
 
-pub set-done : {a b : List ℕ} {at end : ℕ} (n S t : ℕ) → t ≤ n + 1 → n < t → Put a b at end (set_text (t - 1) S) → Put a b at end (set_text n S)
+-- the loop's last turn
+pub set-done : {a b : Line} (n S t : ℕ) → t ≤ n + 1 → n < t → Put a b (set_text (t - 1) S) → Put a b (set_text n S)
 set-done n S t l k p = let e : t - 1 ≡ n = omega arith in rw e at p
 
 -- ---- what one table adds

@@ -8,56 +8,57 @@ ghost use Rattle.digits.specs.SetText.{table_text};
 
 use sets::has_table;
 
-const ZERO: u8 = 48;
-
-const COMMA: u8 = 44;
-
-// One byte.
-pub fn put_byte(out: &mut [u8], at: usize, b: u8) -> usize
-    requires { at + 1 ≤ length out.old }
-    ensures { Put out.old out.new at result (b ∷ []) }
-{
-    out[at] = b;
-    at + 1
+// Lent bytes, and the place of the next one.
+// Its numbers and sets are put by hand and not by `write!`, which may fail: no clause of std says that it does not where there is room.
+#[derive(Drop)]
+pub struct Line<'a> {
+    pub out: &'a mut [u8],
+    pub at: usize,
 }
 
-// A number's digits.
-pub fn put_number(out: &mut [u8], at: usize, n: u64) -> usize
-    requires { at + length (digits_of n) ≤ length out.old }
-    ensures { Put out.old out.new at result (digits_of n) }
-{
-    if n < 10 {
-        return put_byte(out, at, ZERO + n as u8);
+impl Line<'_> {
+    // One byte.
+    pub fn put_byte(&mut self, b: u8)
+        requires { self.old.at + 1 ≤ length self.old.out.now }
+        ensures { Put self.old self.new (b ∷ []) }
+    {
+        self.out[self.at] = b;
+        self.at += 1;
     }
-    let end = put_number(out, at, n / 10);
-    put_byte(out, end, ZERO + (n % 10) as u8)
-}
 
-// Table `t` of a set, where its lower tables stand from `at` to `end`.
-fn put_table(out: &mut [u8], at: usize, end: usize, set: u64, t: u64) -> usize
-    requires { (1 ≤ t) × (t ≤ 32) × (end + length (table_text set t (ltb at end)) ≤ length out.old) }
-    ensures { Put out.old out.new end result (table_text set t (ltb at end)) }
-{
-    if !has_table(set, t) {
-        return end;
+    // A number's digits.
+    pub fn put_number(&mut self, n: u64)
+        requires { self.old.at + length (digits_of n) ≤ length self.old.out.now }
+        ensures { Put self.old self.new (digits_of n) }
+    {
+        if n >= 10 {
+            self.put_number(n / 10);
+        }
+        self.put_byte(b'0' + (n % 10) as u8);
     }
-    if at < end {
-        let next = put_byte(out, end, COMMA);
-        return put_number(out, next, t);
-    }
-    put_number(out, end, t)
-}
 
-// The tables of a set, ascending, with commas.
-pub fn put_set(out: &mut [u8], at: usize, n: u64, set: u64) -> usize
-    requires { (at + length (set_text n set) ≤ length out.old) × (n ≤ 32) }
-    ensures { Put out.old out.new at result (set_text n set) }
-{
-    let mut end = at;
-    let mut t = 1;
-    while t <= n {
-        end = put_table(out, at, end, set, t);
-        t += 1;
+    // Table `t` of a set whose lower tables stand from `start` on.
+    fn put_table(&mut self, start: usize, set: u64, t: u64)
+        requires { (1 ≤ t) × (t ≤ 32) × (self.old.at + length (table_text set t (ltb start self.old.at)) ≤ length self.old.out.now) }
+        ensures { Put self.old self.new (table_text set t (ltb start self.old.at)) }
+    {
+        if !has_table(set, t) {
+            return;
+        }
+        if self.at > start {
+            self.put_byte(b',');
+        }
+        self.put_number(t);
     }
-    end
+
+    // The tables of a set, ascending, with commas.
+    pub fn put_set(&mut self, n: u64, set: u64)
+        requires { (self.old.at + length (set_text n set) ≤ length self.old.out.now) × (n ≤ 32) }
+        ensures { Put self.old self.new (set_text n set) }
+    {
+        let start = self.at;
+        for t in 1..=n {
+            self.put_table(start, set, t);
+        }
+    }
 }

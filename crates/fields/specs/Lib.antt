@@ -3,6 +3,5 @@ pub mod SpanLaws
 pub mod CutLaws
 pub mod NumberLaws
 pub mod ValueLaws
-pub mod KindLaws
 pub mod Recorded
-pub mod JudgeLaws
+pub mod KindLaws

@@ -5,27 +5,26 @@ use Rattle.std.proofs.Common.{◌∙◌, ap, inl, inr, add-one, arith, length-dr
 use mathlib.Core.List.{List, [], ◌∷◌, map}
 use Rattle.std.proofs.Math.Decide.{dec_lt, ℕ_discrete}
 use Rattle.std.proofs.Math.ListN.{get_or-map, get_or-eq_default}
-use Rattle.rules.specs.declared.forms.Number.{Number}
-use Rattle.rules.specs.declared.forms.Number.TheVariants.{Value, Bad}
 use Rattle.rules.specs.Lines.{fields, field, value_from, value_of, is_number, number_of}
 use Rattle.rules.specs.Reading.{all_numbers, number_fields, values}
 use Rattle.rules.specs.laws.Bools.{true-or-false}
+use Rattle.std.specs.Prelude.{None, Option, Some}
 
 -- ---- a field as a number
-module _ (s : List ℕ) (r : Number) (e : r ≡ number_of s) where
-  pub bad-field : r ≡ Bad → is_number s ≡ false
+module _ (s : List ℕ) (r : Option ℕ) (e : r ≡ number_of s) where
+  pub bad-field : r ≡ None → is_number s ≡ false
   bad-field b = go (true-or-false (is_number s))
     where
       go : (is_number s ≡ true) ⊎ (is_number s ≡ false) → is_number s ≡ false
-      go (inl t) = let f : Bad ≡ Value (value_of s) = sym b ∙ e ∙ rw t in let z : ◌≡◌ {A = ℕ} 0 1 = cc in absurd (omega arith)
+      go (inl t) = let f : None ≡ Some (value_of s) = sym b ∙ e ∙ rw t in let z : ◌≡◌ {A = ℕ} 0 1 = cc in absurd (omega arith)
       go (inr f) = f
 
-  pub good-field : (v : ℕ) → r ≡ Value v → (is_number s ≡ true) × (v ≡ value_of s)
+  pub good-field : (v : ℕ) → r ≡ Some v → (is_number s ≡ true) × (v ≡ value_of s)
   good-field v b = go (true-or-false (is_number s))
     where
       go : (is_number s ≡ true) ⊎ (is_number s ≡ false) → (is_number s ≡ true) × (v ≡ value_of s)
-      go (inl t) = let f : Value v ≡ Value (value_of s) = sym b ∙ e ∙ rw t in (t, cc)
-      go (inr n) = let f : Value v ≡ Bad = sym b ∙ e ∙ rw n in let z : ◌≡◌ {A = ℕ} 0 1 = cc in absurd (omega arith)
+      go (inl t) = let f : Some v ≡ Some (value_of s) = sym b ∙ e ∙ rw t in (t, cc)
+      go (inr n) = let f : Some v ≡ None = sym b ∙ e ∙ rw n in let z : ◌≡◌ {A = ℕ} 0 1 = cc in absurd (omega arith)
 
 -- ---- the numbers of a line
 number_at : (line : List ℕ) (k : ℕ) → get_or (number_fields line) k [] ≡ field line (k + 1)
@@ -62,10 +61,10 @@ module _ {line cells : List ℕ} {k : ℕ} (t : Taken line k cells) (count : ℕ
   unfolding all_numbers
   opened l = rw (drop-cons (number_fields line) k [] (rw (how-many line count h) l), number_at line k, add-one)
 
-  pub taken-bad : (r : Number) → k < count → r ≡ number_of (field line (k + 1)) → r ≡ Bad → false ≡ all_numbers (number_fields line)
-  taken-bad r l e b = sym (t.numeric ∙ opened l ∙ rw (bad-field (field line (k + 1)) r e b))
+  pub taken-bad : (r : Option ℕ) → k < count → r ≡ number_of (field line (k + 1)) → r ≡ None → all_numbers (number_fields line) ≡ false
+  taken-bad r l e b = t.numeric ∙ opened l ∙ rw (bad-field (field line (k + 1)) r e b)
 
-  pub taken_next : (r : Number) (v : ℕ) → count ≤ 4 → k < count → r ≡ number_of (field line (k + 1)) → r ≡ Value v → Taken line (k + 1) (set cells k v)
+  pub taken_next : (r : Option ℕ) (v : ℕ) → count ≤ 4 → k < count → r ≡ number_of (field line (k + 1)) → r ≡ Some v → Taken line (k + 1) (set cells k v)
   taken_next r v c l e b =
       let g = good-field (field line (k + 1)) r e v b in
       record {
@@ -80,9 +79,9 @@ module _ {line cells : List ℕ} {k : ℕ} (t : Taken line k cells) (count : ℕ
       are-next j m w (no q) = get_or-set_other cells k j v 0 q ∙ t.are j (omega arith)
 
   module _ (l : count ≤ k) where
-    pub taken-all : true ≡ all_numbers (number_fields line)
+    pub taken-all : all_numbers (number_fields line) ≡ true
     unfolding all_numbers
-    taken-all = sym (t.numeric ∙ rw (drop_of_length-le (number_fields line) {i = k} (omega (arith, how-many line count h))))
+    taken-all = t.numeric ∙ rw (drop_of_length-le (number_fields line) {i = k} (omega (arith, how-many line count h)))
 
     pub taken-values : k ≤ count → (j : ℕ) → get_or cells j 0 ≡ get_or (values line) j 0
     taken-values m j = go (dec_lt j k)

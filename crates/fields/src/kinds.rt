@@ -1,99 +1,70 @@
 // What a line is, and whether it is good where it stands.
-ghost use Rattle.std.specs.Prelude.{◌≡◌, true, ℕ, suc, ◌≤◌, length, get_or};
+ghost use Rattle.std.specs.Prelude.{◌≡◌, ℕ, suc, ◌≤◌, length, get_or, Some, MatchResult, MatchOption, false, true};
 ghost use Rattle.rules.specs.Limits.{max_tables};
 ghost use Rattle.rules.specs.Lines.{fields};
-ghost use Rattle.rules.specs.declared.forms.Letter.TheVariants.{Known};
-ghost use Rattle.rules.specs.Reading.{letter_of, form_of, stage, all_numbers, number_fields, values, misplaced, excess, line_form, line_number_as};
-ghost use Rattle.fields.specs.Recorded.{Recorded, bad_line};
+ghost use Rattle.rules.specs.Reading.{letter_of, form_of, stage, all_numbers, number_fields, values, misplaced, excess};
+ghost use Rattle.fields.specs.Recorded.{ReadAs, Judged, JudgedAs};
 
 use super::lines::{count_fields, field_of};
 use super::numbers::read_number;
-use rules::forms::{Form, Kind, Letter, Number};
+use rules::forms::{Form, Kind};
+use rules::refusal::Reason;
 use rules::{Edge, Method, Table};
 
-// How many records of each kind stand in the lists, the stage of the latest line, and the crew once its line is read.
-#[derive(Clone, Copy)]
+// How many records of each kind stand in the lists, the stage of the latest line, 0 before the first, and the crew once its line is read.
+#[derive(Clone, Copy, Default)]
 pub struct Progress {
     pub tables: usize,
     pub methods: usize,
     pub edges: usize,
+    // A number and no Option<Kind>: `judge` answers for any number (docs/PROMISES.md).
     pub latest: u64,
     pub workers: u64,
     pub scheme: u64,
 }
 
-// The numbers of a line, in the first cells, where all of them are good.
+// What a good line says: its kind, and its numbers in the first cells.
 #[derive(Clone, Copy)]
-pub struct Values {
-    pub numeric: bool,
-    pub cells: [u64; 4],
-}
-
-// A line's refusal, 0 for none, and then its kind and numbers.
-#[derive(Clone, Copy)]
-pub struct Judged {
-    pub number: u64,
+pub struct Record {
     pub kind: Kind,
     pub cells: [u64; 4],
 }
 
 // A letter's byte decides the kind of its line and how many numbers follow.
-pub fn letter_of(letter: u8) -> Letter
+#[tactic(auto, unfolding(rules::specs::Reading::letter_of))]
+pub fn letter_of(letter: u8) -> Option<Form>
     ensures { result ≡ letter_of letter }
 {
-    match letter {
-        84 => Letter::Known(Form {
-            kind: Kind::Table,
-            numbers: 3,
-        }),
-        77 => Letter::Known(Form {
-            kind: Kind::Method,
-            numbers: 4,
-        }),
-        69 => Letter::Known(Form {
-            kind: Kind::Edge,
-            numbers: 3,
-        }),
-        87 => Letter::Known(Form {
-            kind: Kind::Crew,
-            numbers: 2,
-        }),
-        _ => Letter::Unknown,
-    }
+    let (kind, numbers) = match letter {
+        b'T' => (Kind::Table, 3),
+        b'M' => (Kind::Method, 4),
+        b'E' => (Kind::Edge, 3),
+        b'W' => (Kind::Crew, 2),
+        _ => return None,
+    };
+    Some(Form { kind, numbers })
 }
 
 // What a line is follows from its first field: one byte.
-fn form_of(first: &[u8]) -> Letter
+fn form_of(first: &[u8]) -> Option<Form>
     ensures { result ≡ form_of first.now }
 {
-    if first.len() != 1 {
-        return Letter::Unknown;
+    match first {
+        [letter] => letter_of(*letter),
+        _ => None,
     }
-    letter_of(first[0])
 }
 
 // The numbers of a line that has so many.
-fn read_values(line: &[u8], count: usize) -> Values
+fn read_values(line: &[u8], count: usize) -> Option<[u64; 4]>
     requires { (length (fields line.now) ≡ suc count) × (count ≤ 4) }
-    ensures numeric { result.numeric ≡ all_numbers (number_fields line.now) }
-    ensures cells { result.numeric ≡ true → (k : ℕ) → get_or result.cells k 0 ≡ get_or (values line.now) k 0 }
+    ensures { ReadAs line.now result }
 {
     let mut cells = [0u64; 4];
-    let mut k = 0;
-    while k < count {
-        match read_number(field_of(line, k + 1)) {
-            Number::Value(value) => cells[k] = value,
-            Number::Bad => return Values {
-                numeric: false,
-                cells: [0u64; 4],
-            },
-        }
-        k += 1;
+    for k in 0..count {
+        cells[k] = read_number(field_of(line, k + 1))?;
     }
-    Values {
-        numeric: true,
-        cells: cells,
-    }
+    Some(cells)
 }
 
 // Where a kind stands in the order of lines.
@@ -109,83 +80,60 @@ pub fn stage_of(kind: Kind) -> u64
 }
 
 // 23: a table that is not the next, a kind after a later kind, or a second W.
-fn is_misplaced(kind: Kind, latest: u64, tables: usize, first: u64) -> bool
-    requires { tables ≤ max_tables }
-    ensures { result ≡ misplaced kind latest tables first }
+#[tactic(auto, unfolding(rules::specs::Reading::misplaced))]
+fn is_misplaced(kind: Kind, first: u64, progress: Progress) -> bool
+    requires { progress.tables ≤ max_tables }
+    ensures { result ≡ misplaced kind progress.latest progress.tables first }
 {
     let stage = stage_of(kind);
     match kind {
-        Kind::Table => if first == tables as u64 + 1 {
-            stage < latest
-        } else {
-            true
-        },
-        Kind::Method => stage < latest,
-        Kind::Edge => stage < latest,
-        Kind::Crew => stage <= latest,
+        Kind::Table => first != progress.tables as u64 + 1 || stage < progress.latest,
+        Kind::Method | Kind::Edge => stage < progress.latest,
+        Kind::Crew => stage <= progress.latest,
     }
 }
 
 // 25: one more than a text may have of its kind.
-fn is_excess(kind: Kind, tables: usize, methods: usize, edges: usize) -> bool
-    ensures { result ≡ excess kind tables methods edges }
+#[tactic(auto, unfolding(rules::specs::Reading::excess))]
+fn is_excess(kind: Kind, progress: Progress) -> bool
+    ensures { result ≡ excess kind progress.tables progress.methods progress.edges }
 {
     match kind {
-        Kind::Table => Table::MAX_COUNT <= tables as u64,
-        Kind::Method => Method::MAX_COUNT <= methods as u64,
-        Kind::Edge => Edge::MAX_LINES <= edges as u64,
+        Kind::Table => Table::MAX_COUNT <= progress.tables as u64,
+        Kind::Method => Method::MAX_COUNT <= progress.methods as u64,
+        Kind::Edge => Edge::MAX_LINES <= progress.edges as u64,
         Kind::Crew => false,
     }
 }
 
-// A refused line; kind and numbers say nothing then.
-fn bad(number: u64) -> Judged
-    ensures { result ≡ bad_line number }
-{
-    Judged {
-        number: number,
-        kind: Kind::Table,
-        cells: [0u64; 4],
-    }
-}
-
 // A line with a known letter, where the lines before it came so far.
-fn judge_form(line: &[u8], form: Form, progress: Progress) -> Judged
+#[tactic(auto, unfolding(rules::specs::Reading::line_number_as))]
+fn judge_form(line: &[u8], form: Form, progress: Progress) -> Result<Record, Reason>
     requires { (progress.tables ≤ max_tables) × (form.numbers ≤ 4) }
-    ensures number { result.number ≡ line_number_as (Known form) progress.latest progress.tables progress.methods progress.edges line.now }
-    ensures taken { result.number ≡ 0 → (result.kind ≡ form.kind) × ((k : ℕ) → get_or result.cells k 0 ≡ get_or (values line.now) k 0) }
+    ensures { JudgedAs (Some form) progress line.now result }
 {
-    let numbers = form.numbers;
-    let kind = form.kind;
-    if count_fields(line) != numbers + 1 {
-        return bad(21);
+    if count_fields(line) != form.numbers + 1 {
+        return Err(Reason::LineFields);
     }
-    let read = read_values(line, numbers);
-    if !read.numeric {
-        return bad(22);
+    let cells = read_values(line, form.numbers).ok_or(Reason::LineNumber)?;
+    if is_misplaced(form.kind, cells[0], progress) {
+        return Err(Reason::LineOrder);
     }
-    let cells = read.cells;
-    if is_misplaced(kind, progress.latest, progress.tables, cells[0]) {
-        return bad(23);
+    if is_excess(form.kind, progress) {
+        return Err(Reason::LineExcess);
     }
-    if is_excess(kind, progress.tables, progress.methods, progress.edges) {
-        return bad(25);
-    }
-    Judged {
-        number: 0,
-        kind: kind,
-        cells: cells,
-    }
+    Ok(Record {
+        kind: form.kind,
+        cells,
+    })
 }
 
-// A line, where the lines before it came so far: "the first that applies in this order" of 21, 22, 23 and 25, or none.
-pub fn judge(line: &[u8], progress: Progress) -> Judged
+// A line, where the lines before it came so far: "the first that applies in this order" of 21, 22, 23 and 25, or its record.
+#[tactic(auto, unfolding(rules::specs::Reading::line_number_as))]
+pub fn judge(line: &[u8], progress: Progress) -> Result<Record, Reason>
     requires { progress.tables ≤ max_tables }
-    ensures number { result.number ≡ line_number_as (line_form line.now) progress.latest progress.tables progress.methods progress.edges line.now }
-    ensures taken { result.number ≡ 0 → Recorded line.now result.kind result.cells }
+    ensures { Judged progress line.now result }
 {
-    match form_of(field_of(line, 0)) {
-        Letter::Known(form) => judge_form(line, form, progress),
-        Letter::Unknown => bad(21),
-    }
+    let form = form_of(field_of(line, 0)).ok_or(Reason::LineFields)?;
+    judge_form(line, form, progress)
 }

@@ -1,8 +1,9 @@
 -- Writing the rows of all sizes in one walk: places in the list of all rows, and what a node needs and leaves that fills.
-use Rattle.std.specs.Prelude.{◌≡◌, Bool, List, ◌++◌, map, ◌⊎◌, ℕ, ◌+◌, ◌-◌, ◌≤◌, ◌<◌, length, get_or}
+use Rattle.std.specs.Prelude.{◌≡◌, List, ◌++◌, map, ◌⊎◌, ℕ, ◌+◌, ◌-◌, ◌≤◌, ◌<◌, length, get_or}
 use Rattle.rules.specs.Query.{Graph}
 use Rattle.rules.specs.Estimate.{estimate}
 use Rattle.rules.specs.Rows.{memo}
+use Rattle.graph.specs.declared.chosen.Chosen.{Chosen}
 use Rattle.graph.specs.Node.{Node}
 use Rattle.parts.specs.Parts.{Valued}
 use Rattle.rows.specs.Tally.{found, Tallied}
@@ -34,11 +35,11 @@ pub record Filled (g : Graph) (n t chosen z : ℕ) (starts ends out out' values 
   pub estimates : Laid (map (estimate g) (memo g)) n starts ends values values'
 
 -- a node that fills: what it knows, and both lists have room for all rows
-pub record Filling (g : Graph) (near parts : List ℕ) (n t chosen around : ℕ) (joined : Bool) (z e : ℕ) (starts out values : List ℕ) : Type 0 where
-  pub node : Node g near n t chosen around joined
-  pub valued : Valued g parts t chosen e
-  pub smaller : z < t
+pub record Filling (g : Graph) (near parts : List ℕ) (n t : ℕ) (chosen : Chosen) (e : ℕ) (starts out values : List ℕ) : Type 0 where
+  pub node : Node g near n t chosen
+  pub valued : Valued g parts t chosen.set e
+  pub smaller : chosen.size < t
   pub long : n < length starts
-  pub placed : Placed g n t chosen z starts
+  pub placed : Placed g n t chosen.set chosen.size starts
   pub room : length (memo g) ≤ length out
   pub estimates-room : length (memo g) ≤ length values

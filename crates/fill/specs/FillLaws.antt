@@ -4,9 +4,9 @@ use Rattle.std.proofs.Math.Path.{refl}
 use Rattle.std.proofs.Common.{sym, ap, ◌∙◌, inl, inr, zero-add, arith, length-append, length-set, length-drop, get_or-set_same, get_or-set_other, get_or-append-add, get_or-drop, ext_get_or, eq-eqb}
 use mathlib.Core.List.{List, [], ◌∷◌, ◌++◌, map}
 use Rattle.std.proofs.Math.Decide.{dec_lt, ℕ_discrete}
-use Rattle.std.specs.Int.Bits.{bit_and, bit_or}
+use Rattle.std.specs.Int.Bits.{bit_and}
 use Rattle.std.proofs.Math.ListN.{get_or-append}
-use Rattle.std.proofs.lemmas.List.{get_or_at}
+use Rattle.std.proofs.lemmas.List.{append_assoc, get_or_at}
 use Rattle.std.proofs.lemmas.List.Edits.{sets, sets-eq}
 use Rattle.rules.specs.Lists.{is_yes, in_row}
 use Rattle.rules.specs.Sets.{single}
@@ -19,6 +19,8 @@ use Rattle.rules.specs.laws.Lists.{row-split, at_map, length-map}
 use Rattle.rules.specs.laws.Bools.{true-or-false}
 use Rattle.rules.specs.laws.Decide.{connected?}
 use Rattle.graph.specs.Near.{Near}
+use Rattle.graph.specs.declared.chosen.Chosen.{Chosen}
+use Rattle.graph.specs.Node.{taking}
 use Rattle.graph.specs.NodeLaws.{node-with, node-without}
 use Rattle.parts.specs.Parts.{cell_of, Parts, by_parts}
 use Rattle.parts.specs.PartLaws.{valued-with, valued-without, with-estimate, valued-root}
@@ -27,13 +29,9 @@ use Rattle.rows.specs.Tally.{found, here, Tallied}
 use Rattle.fill.specs.Fill.{Ahead, Kept, Placed, Laid, Filled, Filling}
 use Rattle.rows.specs.WalkLaws.{up_to-none, up_to-more, up_to-end, length_more}
 use Rattle.rows.specs.FoundLaws.{found-step, found_first, count-here, tallied-none, tallied-step}
-use Rattle.rows.specs.TallyLaws.{root}
+use Rattle.rows.specs.TallyLaws.{nothing, root}
 
 -- ---- places
-append_assoc : (a b c : List ℕ) → (a ++ b) ++ c ≡ a ++ (b ++ c)
-append_assoc [] b c = refl
-append_assoc (x ∷ a) b c = ap (λ (l : List ℕ). x ∷ l) (append_assoc a b c)
-
 module _ (M : List ℕ) (a : ℕ) (xs ys : List ℕ) (h : Ahead M a (xs ++ ys)) where
   ahead-left : Ahead M a xs
   ahead-left = record { front = h.front; behind = ys ++ h.behind; whole = ap (λ (l : List ℕ). h.front ++ l) (sym (append_assoc xs ys h.behind)) ∙ h.whole; place = h.place }
@@ -145,58 +143,58 @@ module _ {g : Graph} {n t chosen : ℕ} (z x : ℕ) (row : Bool) (starts : List 
       which j i a c d (no f) (no q) = second.cells j i a (omega arith) d
 
 -- ---- a node that fills: x is table t as a set, `more` the estimate with it
-module _ {g : Graph} {near parts : List ℕ} {n t chosen around : ℕ} {joined : Bool} {z e : ℕ} {starts out values : List ℕ} (c : Filling g near parts n t chosen around joined z e starts out values) (x : ℕ) (row : Bool) (l : t ≤ n) (q : x ≡ single t)
-    (r : row ≡ is_yes (connected? g (chosen + x))) where
+module _ {g : Graph} {near parts : List ℕ} {n t : ℕ} {e : ℕ} {chosen : Chosen} {starts out values : List ℕ} (c : Filling g near parts n t chosen e starts out values) (x : ℕ) (row : Bool) (l : t ≤ n) (q : x ≡ single t)
+    (r : row ≡ is_yes (connected? g (chosen.set + x))) where
   abbrev place : ℕ
-  place = get_or starts (z + 1) 0
+  place = get_or starts (chosen.size + 1) 0
 
   abbrev estimates : List ℕ
   estimates = map (estimate g) (memo g)
 
-  inside : z + 1 < length starts
+  inside : chosen.size + 1 < length starts
   inside = omega (arith, c.smaller, c.long)
 
-  inside-n : z + 1 ≤ n
+  inside-n : chosen.size + 1 ≤ n
   inside-n = omega (arith, c.smaller)
 
-  there : row ≡ true → (place < length (memo g)) × (get_or (memo g) (place) 0 ≡ chosen + x)
-  there = row-place z x row starts {v = cond row (place + 1) (place)} l q r inside inside-n refl c.placed
+  there : row ≡ true → (place < length (memo g)) × (get_or (memo g) (place) 0 ≡ chosen.set + x)
+  there = row-place chosen.size x row starts {v = cond row (place + 1) (place)} l q r inside inside-n refl c.placed
 
   pub fits-row : row ≡ true → (place < length out) × (place < length values)
   fits-row b = (omega (arith, c.room, (there b).0), omega (arith, c.estimates-room, (there b).0))
 
-  module _ {v more : ℕ} {wrote valued : List ℕ} (w : v ≡ cond row (place + 1) (place)) (m : more ≡ min max_estimate (by_parts parts (bit_and chosen (at near t)) t (t - 1) (e * get_or parts (cell_of t t) 0)))
+  module _ {v more : ℕ} {wrote valued : List ℕ} (w : v ≡ cond row (place + 1) (place)) (m : more ≡ min max_estimate (by_parts parts (bit_and chosen.set (at near t)) t (t - 1) (e * get_or parts (cell_of t t) 0)))
       (i : length wrote ≡ length out) (j : length valued ≡ length values) where
-    pub filling-with : Filling g near parts n (t + 1) (chosen + x) (bit_or around (at near t)) row (z + 1) more (set starts (z + 1) v) wrote valued
+    pub filling-with : Filling g near parts n (t + 1) (taking chosen x (at near t) row) more (set starts (chosen.size + 1) v) wrote valued
     filling-with = record {
       node = node-with c.node x l q row r;
       valued = valued-with c.node c.valued l x more q m;
       smaller = omega (arith, c.smaller);
-      long = omega (arith, c.long, length-set starts (z + 1) v);
-      placed = placed-with z x row starts l q r inside inside-n w c.placed;
+      long = omega (arith, c.long, length-set starts (chosen.size + 1) v);
+      placed = placed-with chosen.size x row starts l q r inside inside-n w c.placed;
       room = omega (arith, c.room);
       estimates-room = omega (arith, c.estimates-room);
     }
 
-    module _ {ends mid values-mid : List ℕ} (f : Filled g n (t + 1) (chosen + x) (z + 1) (set starts (z + 1) v) ends wrote mid valued values-mid) where
-      pub filling-without : length ends ≡ length (set starts (z + 1) v) → length mid ≡ length wrote → length values-mid ≡ length valued → Filling g near parts n (t + 1) chosen around joined z e ends mid values-mid
+    module _ {ends mid values-mid : List ℕ} (f : Filled g n (t + 1) (chosen.set + x) (chosen.size + 1) (set starts (chosen.size + 1) v) ends wrote mid valued values-mid) where
+      pub filling-without : length ends ≡ length (set starts (chosen.size + 1) v) → length mid ≡ length wrote → length values-mid ≡ length valued → Filling g near parts n (t + 1) chosen e ends mid values-mid
       filling-without a b d = record {
         node = node-without c.node l;
         valued = valued-without c.node c.valued l;
         smaller = omega (arith, c.smaller);
-        long = omega (arith, c.long, length-set starts (z + 1) v);
-        placed = placed-without z x row starts l q r inside inside-n w c.placed f.places;
+        long = omega (arith, c.long, length-set starts (chosen.size + 1) v);
+        placed = placed-without chosen.size x row starts l q r inside inside-n w c.placed f.places;
         room = omega (arith, c.room);
         estimates-room = omega (arith, c.estimates-room);
       }
 
       -- one step of filling
-      pub filled-step : {last new values-new : List ℕ} → wrote ≡ cond row (set out (place) (chosen + x)) out → valued ≡ cond row (set values (place) more) values
-          → Filled g n (t + 1) chosen z ends last mid new values-mid values-new → Filled g n t chosen z starts last out new values values-new
+      pub filled-step : {last new values-new : List ℕ} → wrote ≡ cond row (set out (place) (chosen.set + x)) out → valued ≡ cond row (set values (place) more) values
+          → Filled g n (t + 1) chosen.set chosen.size ends last mid new values-mid values-new → Filled g n t chosen.set chosen.size starts last out new values values-new
       filled-step a b h = record {
         places = tallied-step x row starts l q r inside w f.places h.places;
-        sets = laid-step z x row starts l q r inside inside-n w c.placed (memo g) out (kept_row row place (chosen + x) (memo g) out there c.room a) (put-row row place (chosen + x) (memo g) out there c.room a) f.sets h.sets;
-        estimates = laid-step z x row starts l q r inside inside-n w c.placed estimates values (kept_row row place more estimates values valued-there room b) (put-row row place more estimates values valued-there room b) f.estimates h.estimates;
+        sets = laid-step chosen.size x row starts l q r inside inside-n w c.placed (memo g) out (kept_row row place (chosen.set + x) (memo g) out there c.room a) (put-row row place (chosen.set + x) (memo g) out there c.room a) f.sets h.sets;
+        estimates = laid-step chosen.size x row starts l q r inside inside-n w c.placed estimates values (kept_row row place more estimates values valued-there room b) (put-row row place more estimates values valued-there room b) f.estimates h.estimates;
       }
         where
           room : length estimates ≤ length values
@@ -305,6 +303,6 @@ starts_none g starts e s l =
     ap (λ (j : ℕ). get_or starts j 0) z ∙ e ∙ sym (ap length (up_to-none g)) ∙ ap (λ (j : ℕ). length (up_to g j)) y
 
 pub filling-root : (g : Graph) (near parts starts out values : List ℕ) → GoodGraph g → Near g near → Parts g (edge_count g) parts → table_count g < length starts → length (memo g) ≤ length out → length (memo g) ≤ length values → ((s : ℕ) → s ≤ table_count g → get_or starts s 0 ≡ length (up_to g (s - 1)))
-    → Filling g near parts (table_count g) 1 0 0 false 0 1 starts out values
+    → Filling g near parts (table_count g) 1 nothing 1 starts out values
 filling-root g near parts starts out values good n p l m k h =
     record { node = root g near good n; valued = valued-root g parts good p; smaller = omega arith; long = l; placed = placed-root g starts h; room = m; estimates-room = k }

@@ -3,16 +3,15 @@
 
 ghost use Rattle.std.specs.Prelude.{◌≡◌, true, cond, map, ◌+◌, ◌≤◌, ◌<◌, length, set};
 ghost use Rattle.std.proofs.lemmas.List.Edits.{sets};
-ghost use Rattle.rules.specs.Query.{Graph, graph_of};
-ghost use Rattle.rules.specs.Checked.{GoodGraph};
+ghost use Rattle.rules.specs.Query.{Graph};
 ghost use Rattle.rules.specs.Estimate.{estimate};
 ghost use Rattle.rules.specs.Rows.{memo};
-ghost use Rattle.rows.specs.Tally.{Tally};
 ghost use Rattle.fill.specs.Fill.{Filling, Filled};
 
-use graph::near::{grows, neighbours, stuck};
+use graph::chosen::{Chosen, NONE};
+use graph::near::Neighbours;
 use parts::{table_parts, with_part};
-use rows::tally::SIZES;
+use rows::tally::{SIZES, Tally};
 use sets::single;
 
 // Writes a set and its estimate where it is a row; the place after it.
@@ -30,85 +29,58 @@ fn put(row: bool, s: u64, e: u64, out: &mut [u64], estimates: &mut [u64], at: us
     at
 }
 
-// Writes, each at its size's place, the connected sets that add some of the tables from `t` on to the chosen ones, `size` tables whose estimate is `e`; moves the places on.
+// Writes, each at its size's place, the connected sets that add some of the tables from `t` on to the chosen ones, whose estimate is `e`; moves the places on.
+// It is a walk beside that of rows' `tally_from`: it carries an estimate down, and a walk for both would be a trait whose laws restate both proofs.
+// The three lists stay slices: a struct of them would need clauses that they are the same lists, as long as before.
 fn fill_from(
-    near: &[u64; 16],
+    near: &Neighbours,
     parts: &[u64; 256],
-    tables: u64,
     t: u64,
-    chosen: u64,
-    around: u64,
-    joined: bool,
-    size: usize,
+    chosen: Chosen,
     e: u64,
     starts: &mut [usize],
     out: &mut [u64],
     estimates: &mut [u64],
 )
-    requires { (g : Graph) × Filling g near.now parts.now tables t chosen around joined size e starts.old out.old estimates.old }
-    ensures { (g : Graph) → Filling g near.now parts.now tables t chosen around joined size e starts.old out.old estimates.old → Filled g tables t chosen size starts.old starts.new out.old out.new estimates.old estimates.new }
+    requires { (g : Graph) × Filling g near.now.of parts.now near.now.tables t chosen e starts.old out.old estimates.old }
+    ensures { (g : Graph) → Filling g near.now.of parts.now near.now.tables t chosen e starts.old out.old estimates.old → Filled g near.now.tables t chosen.set chosen.size starts.old starts.new out.old out.new estimates.old estimates.new }
 {
-    if t > tables {
+    if t > near.tables {
         return;
     }
     let bit = single(t);
-    let rest = single(tables + 1) - bit;
-    if stuck(near, chosen, around, joined, rest) {
+    let rest = single(near.tables + 1) - bit;
+    if near.stuck(chosen, rest) {
         return;
     }
-    let row = grows(near, chosen, around, joined, bit);
-    let with = chosen + bit;
-    let beside = near[(t - 1) as usize];
-    let wider = around | beside;
-    let more = with_part(parts, t, chosen & beside, e);
-    let after = t + 1;
-    let larger = size + 1;
-    starts[larger] = put(row, with, more, out, estimates, starts[larger]);
-    fill_from(
-        near, parts, tables, after, with, wider, row, larger, more, starts, out, estimates,
-    );
-    fill_from(
-        near, parts, tables, after, chosen, around, joined, size, e, starts, out, estimates,
-    );
+    let row = near.grows(chosen, bit);
+    let beside = near.of[(t - 1) as usize];
+    let with = Chosen {
+        set: chosen.set + bit,
+        size: chosen.size + 1,
+        around: chosen.around | beside,
+        joined: row,
+    };
+    let more = with_part(parts, t, chosen.set & beside, e);
+    starts[with.size] = put(row, with.set, more, out, estimates, starts[with.size]);
+    fill_from(near, parts, t + 1, with, more, starts, out, estimates);
+    fill_from(near, parts, t + 1, chosen, e, starts, out, estimates);
 }
 
-// Writes the sets and the estimates of all rows, in memo order; `counts` is their tally.
-pub fn lay_rows(
-    rows: &[u64],
-    left: &[u64],
-    right: &[u64],
-    divisors: &[u64],
-    counts: &[usize],
-    out: &mut [u64],
-    estimates: &mut [u64],
-)
-    requires good_graph { GoodGraph (graph_of rows.now left.now right.now divisors.now) }
-    requires tally { Tally (graph_of rows.now left.now right.now divisors.now) counts.now }
-    requires room { (length (memo (graph_of rows.now left.now right.now divisors.now)) ≤ length out.old) × (length (memo (graph_of rows.now left.now right.now divisors.now)) ≤ length estimates.old) }
-    ensures out { out.new ≡ sets out.old 0 (memo (graph_of rows.now left.now right.now divisors.now)) }
-    ensures estimates { estimates.new ≡ sets estimates.old 0 (map (estimate (graph_of rows.now left.now right.now divisors.now)) (memo (graph_of rows.now left.now right.now divisors.now))) }
+// Writes the sets and the estimates of all rows, in memo order.
+pub fn lay_rows(tally: &Tally, out: &mut [u64], estimates: &mut [u64])
+    requires room { (length (memo tally.now.graph.now) ≤ length out.old) × (length (memo tally.now.graph.now) ≤ length estimates.old) }
+    ensures out { out.new ≡ sets out.old 0 (memo tally.now.graph.now) }
+    ensures estimates { estimates.new ≡ sets estimates.old 0 (map (estimate tally.now.graph.now) (memo tally.now.graph.now)) }
 {
-    let near = neighbours(rows, left, right, divisors);
-    let parts = table_parts(rows, left, right, divisors);
+    let graph = tally.graph;
+    let near = Neighbours::new(graph);
+    let parts = table_parts(graph);
     let mut starts = [0usize; SIZES];
     let mut at = 0usize;
-    for k in 0..rows.len() {
+    for k in 0..graph.rows.len() {
         starts[k + 1] = at;
-        at += counts[k + 1];
+        at += tally.counts[k + 1];
     }
-    let tables = rows.len() as u64;
-    fill_from(
-        &near,
-        &parts,
-        tables,
-        1,
-        0,
-        0,
-        false,
-        0,
-        1,
-        &mut starts,
-        out,
-        estimates,
-    );
+    fill_from(&near, &parts, 1, NONE, 1, &mut starts, out, estimates);
 }

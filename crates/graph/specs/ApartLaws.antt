@@ -30,9 +30,6 @@ module _ (t chosen : ℕ) (some : 1 ≤ t) (below : chosen < 2 ^ (t - 1)) where
   pub below-without : chosen < 2 ^ (t + 1 - 1)
   below-without = omega (arith, twice)
 
-  pub with-fits : t ≤ max_tables → chosen + single t < 65536
-  with-fits l = omega (arith, below-with, pow_mono {i = t + 1 - 1} {j = 16} (omega arith))
-
 -- ---- chosen tables that cannot be joined any more
 pub apart-tables : (a b : ℕ) → ((u : ℕ) → holds a u ≡ 1 → holds b u ≡ 1 → ⊥) → Disjoint a b
 apart-tables a b n = disjoint-of-bits a b (λ i. go i (dec_lt 0 (bit i a)) (dec_lt 0 (bit i b)))

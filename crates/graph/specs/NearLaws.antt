@@ -2,15 +2,14 @@
 use Rattle.std.specs.Prelude.{◌≡◌, refl, ◌⊎◌, Bool, true, false, not, List}
 use Rattle.std.proofs.Common.{sym, ◌∙◌, arith, eqb-true}
 use Rattle.std.proofs.Math.Logic.{inl, inr}
-use Prim.Native.Nat.{ℕ, zero, suc, ◌+◌, ◌-◌, ◌*◌, ◌^◌, ◌≤◌, ◌<◌, ◌/◌, ◌%◌}
+use Prim.Native.Nat.{ℕ, zero, suc, ◌+◌, ◌-◌, ◌^◌, ◌≤◌, ◌<◌, ◌/◌, ◌%◌}
 use Rattle.std.proofs.Math.Decide.{dec_lt, ℕ_discrete}
 use Rattle.std.proofs.Math.Arith.{bin_ind}
 use Rattle.std.specs.Int.Bits.{bit_and, bit_or, and_step, or_step, and_zero_l}
 use Rattle.std.proofs.lemmas.Nat.{and_shr, or_shr, and_le_r}
 use Rattle.std.proofs.lemmas.Bool.{not-false}
-use Rattle.rules.specs.Lists.{is_yes}
 use Rattle.rules.specs.Sets.{holds, Splits, single, Lowest, Disjoint, disjoint}
-use Rattle.rules.specs.Query.{Graph, table_count, edge_count, at, IsTable, Linked}
+use Rattle.rules.specs.Query.{Graph, table_count, at, IsTable, Linked}
 use Rattle.rules.specs.Connected.{Connected}
 use Rattle.rules.specs.laws.Bools.{not-both}
 use Rattle.rules.specs.laws.Sets.{bit, disjoint-from, holds-bit, holds-pos, holds-lt, holds-sum, holds-apart, holds-minus, holds-out, holds-some, holds-single, holds-single-only, splits-inner, splits-outer, union-of}
@@ -61,10 +60,6 @@ shared a b n =
 pub overlap-none : (x y : ℕ) (r : Bool) → r ≡ not (disjoint x y) → r ≡ false → Disjoint x y
 overlap-none x y r e h = eqb-true (bit_and x y) 0 (not-false (disjoint x y) (sym e ∙ h))
 
-pub no-yes : {A : Type 0} (d : Dec A) → (A → ⊥) → is_yes d ≡ false
-no-yes (yes a) n = absurd (n a)
-no-yes (no m) n = refl
-
 -- a set's part and the rest of it
 part-bits : (X S : ℕ) → ((i : ℕ) → bit i X ≡ 1 → bit i S ≡ 1) → (X ≤ S) × Disjoint X (S - X)
 unfolding bit
@@ -101,9 +96,6 @@ module _ {S X Y : ℕ} (p : Splits S X Y) (u : ℕ) where
 module _ (g : Graph) (t : ℕ) where
   pub next-none : NextTo g t 0 0
   next-none = record { joined = λ u h. absurd (omega (arith, holds-pos 0 u h)); all = λ u i l j. absurd (omega arith) }
-
-  pub next-end : {n r : ℕ} → n ≡ edge_count g → NextTo g t n r → NextTo g t (edge_count g) r
-  next-end e h = rw e at h
 
 -- ---- the flood
 -- some tables more, each of them linked to one that is there
@@ -179,9 +171,6 @@ module _ {inside seen todo : ℕ} (t m : ℕ) (f : Flood inside seen todo) (h : 
 
   pub still-meets : (goal : ℕ) → (u : ℕ) × (holds goal u ≡ 1) × (holds seen u ≡ 1) → (u : ℕ) × (holds goal u ≡ 1) × (holds (seen + fresh) u ≡ 1)
   still-meets goal m = (m.0, m.1, in_left grown m.0 m.2)
-
-  pub flood-less : 2 * (inside - (seen + fresh)) + (todo - single t + fresh) < 2 * (inside - seen) + todo
-  flood-less = omega (arith, fresh-of.whole, f.splits.whole, less.whole, holds-pos (single t) t (holds-single t (holds-out todo t h).1))
 
   rest-e : inside - seen - fresh ≡ inside - (seen + fresh)
   rest-e = omega arith

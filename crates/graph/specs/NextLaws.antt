@@ -1,26 +1,20 @@
 -- Laws of the neighbour sets as they are made.
-use Rattle.std.specs.Prelude.{◌≡◌, cond, List, ◌⊎◌, ℕ, ◌+◌, ◌-◌, ◌≤◌, ◌<◌, eqb, length, get_or, set}
-use Rattle.std.proofs.Common.{sym, ◌∙◌, inl, inr, arith, get_or-set_same, get_or-set_other, eq-eqb, ne_eqb}
+use Rattle.std.specs.Prelude.{◌≡◌, cond, ◌⊎◌, ℕ, ◌+◌, ◌≤◌, ◌<◌, eqb, get_or}
+use Rattle.std.proofs.Common.{sym, ◌∙◌, inl, inr, arith, eq-eqb, ne_eqb}
 use Rattle.std.proofs.Math.Decide.{ℕ_discrete}
 use Rattle.std.specs.Int.Bits.{bit_or}
 use Rattle.rules.specs.Limits.{max_tables}
 use Rattle.rules.specs.Sets.{holds, single}
-use Rattle.rules.specs.Query.{Graph, table_count, edge_count, at, IsTable, Linked, Joins}
+use Rattle.rules.specs.Query.{Graph, edge_count, Joins}
 use Rattle.rules.specs.Checked.{GoodGraph, EdgeGood}
 use Rattle.rules.specs.laws.Sets.{holds-pos, holds-single, holds-single-only}
-use Rattle.graph.specs.Near.{far_of, NextTo, Near}
+use Rattle.graph.specs.Near.{far_of, NextTo}
 use Rattle.graph.specs.NearLaws.{either-of, either_left, either-right}
 
 -- ---- one edge
 module _ (a b t : ℕ) {r : ℕ} where
-  pub far-left : a ≡ t → r ≡ single b → r ≡ far_of a b t
-  far-left e h = rw (eq-eqb a t e) h
-
   pub far-right : (a ≡ t → ⊥) → b ≡ t → r ≡ single a → r ≡ far_of a b t
   far-right n e h = rw (ne_eqb a t n, eq-eqb b t e) h
-
-  pub far_none : (a ≡ t → ⊥) → (b ≡ t → ⊥) → r ≡ 0 → r ≡ far_of a b t
-  far_none n m h = rw (ne_eqb a t n, ne_eqb b t m) h
 
 module _ (a b t u : ℕ) (sa : 1 ≤ a) (sb : 1 ≤ b) where
   far-of : holds (far_of a b t) u ≡ 1 → ((a ≡ t) × (b ≡ u)) ⊎ ((a ≡ u) × (b ≡ t))
@@ -65,33 +59,3 @@ next_edge g t i x good l h e = rw e (next_more g t i good l h)
 
 pub edge-fits : (g : Graph) (i : ℕ) → GoodGraph g → i < edge_count g → (1 ≤ get_or g.left i 0) × (get_or g.left i 0 ≤ max_tables) × (1 ≤ get_or g.right i 0) × (get_or g.right i 0 ≤ max_tables)
 edge-fits g i good l = let o = good.edges i l in (o.left-some, omega (arith, o.left-known, good.few-tables), o.right-some, omega (arith, o.right-known, good.few-tables))
-
--- one table more
-pub sets_more : (g : Graph) (near : List ℕ) (k : ℕ) {v : ℕ} → k < length near → ((j : ℕ) → j < k → NextTo g (j + 1) (edge_count g) (get_or near j 0)) → NextTo g (k + 1) (edge_count g) v
-    → (j : ℕ) → j < k + 1 → NextTo g (j + 1) (edge_count g) (get_or (set near k v) j 0)
-sets_more g near k {v} b h n j l = go (ℕ_discrete j k)
-  where
-    go : Dec (j ≡ k) → NextTo g (j + 1) (edge_count g) (get_or (set near k v) j 0)
-    go (yes e) = rw (e, get_or-set_same near k v 0 b) n
-    go (no e) = rw (get_or-set_other near k j v 0 e) (h j (omega arith))
-
-pub near-all : (g : Graph) (near : List ℕ) → GoodGraph g → ((k : ℕ) → k < table_count g → NextTo g (k + 1) (edge_count g) (get_or near k 0)) → Near g near
-near-all g near good h = record { linked = λ t u i k. from-set t u i k; all = λ t u k. to_set t u k (table t u k) }
-  where
-    at-t : (t : ℕ) → IsTable g t → NextTo g t (edge_count g) (at near t)
-    at-t t i =
-        let e : t - 1 + 1 ≡ t = omega (arith, i.from_one) in
-        rw e at (h (t - 1) (omega (arith, i.from_one, i.to-count)))
-
-    from-set : (t u : ℕ) → IsTable g t → holds (at near t) u ≡ 1 → Linked g t u
-    from-set t u i k = let o = (at-t t i).joined u k in record { edge = o.0; known = o.1; joins = o.2 }
-
-    table : (t u : ℕ) → Linked g t u → IsTable g t
-    table t u k = go k.joins (good.edges k.edge k.known)
-      where
-        go : Joins g k.edge t u → EdgeGood g k.edge → IsTable g t
-        go (inl e) o = record { from_one = omega (arith, e.0, o.left-some); to-count = omega (arith, e.0, o.left-known) }
-        go (inr e) o = record { from_one = omega (arith, e.1, o.right-some); to-count = omega (arith, e.1, o.right-known) }
-
-    to_set : (t u : ℕ) → Linked g t u → IsTable g t → holds (at near t) u ≡ 1
-    to_set t u k i = (at-t t i).all u k.edge k.known k.joins

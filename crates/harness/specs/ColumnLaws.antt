@@ -1,16 +1,17 @@
 -- Room or no room, that the promise fixes the outcome, and the numbers of an answer one by one.
-use Rattle.std.specs.Prelude.{◌≡◌, refl, List, [], ◌∷◌, ℕ, ◌≤◌, ◌<◌, length, get_or}
+use Rattle.std.specs.Prelude.{◌≡◌, refl, List, [], ◌∷◌, ℕ, ◌≤◌, ◌<◌, length, get_or, Result}
 use Rattle.std.proofs.Common.{sym, ap, ◌∙◌, arith}
 use Rattle.std.proofs.Math.Decide.{dec_lt, ℕ_discrete}
 use Rattle.rules.specs.Lists.{over}
-use Rattle.rules.specs.declared.Verdict.{Verdict}
+use Rattle.rules.specs.Verdict.{Verdict}
+use Rattle.rules.specs.declared.refusal.Refusal.{Refusal}
 use Rattle.rules.specs.Refusals.{Memory, Input, first_of, checks}
 use Rattle.rules.specs.Answers.{Outcome}
 use Rattle.rules.proofs.laws.Answers.{planned-unique}
 use Rattle.memo.specs.declared.layout.Laid.{Laid}
-use Rattle.memo.specs.Layout.{Lent, lent_of, LaidOut}
+use Rattle.memo.specs.Layout.{Lent, lent_of, refusal_of, LaidOut}
 use Rattle.memo.specs.LayoutLaws.{laid-unique}
-use Rattle.harness.specs.Columns.{Shown, Untouched, Handed, Laying}
+use Rattle.harness.specs.Columns.{numbers, Shown, Untouched, Handed, Laying}
 
 module _ {i : Input} {before after : List ℕ} {left : Memory} {r : ℕ} where
   pub handed-shown : 14 ≤ length before → Shown i before left after r → Handed i before left after r
@@ -24,7 +25,7 @@ pub handed-unique : {i : Input} {before after after' : List ℕ} {left left' : M
 handed-unique {i} {before} {after} {after'} {left} {left'} {r} {r'} p p' = go (dec_lt (length before) 14)
   where
     shown : Outcome → List ℕ
-    shown o = over (o.answer.refusal ∷ o.answer.place ∷ o.answer.best ∷ o.answer.rows ∷ o.answer.cells ∷ o.answer.pairs ∷ o.answer.counts) before
+    shown o = over (numbers o.answer) before
 
     go : Dec (length before < 14) → (r ≡ r') × (left ≡ left') × (after ≡ after')
     go (yes l) = let u = p.short l in let u' = p'.short l in (u.result ∙ sym u'.result, u.lent ∙ sym u'.lent, u.answer ∙ sym u'.answer)
@@ -55,7 +56,7 @@ module _ (i : Input) {v : Verdict} (e : v ≡ first_of (checks i)) where
   pub lay-refused : (v.number ≡ 0 → ⊥) → Laying i (lent_of i.lent) v.number
   lay-refused n = record { refused = λ _. (same, refl); laid = λ z. absurd (n (same ∙ z)) }
 
-  pub lay-laid : {new : Lent} {l : Laid} → v.number ≡ 0 → LaidOut i.query.graph (lent_of i.lent) new l → Laying i new l.refusal
+  pub lay-laid : {new : Lent} {l : Result Laid Refusal} → v.number ≡ 0 → LaidOut i.query.graph (lent_of i.lent) new l → Laying i new (refusal_of l)
   lay-laid {l = l} z d = record { refused = λ n. absurd (n (sym same ∙ z)); laid = λ _. (l, d, refl) }
 
 -- any two outcomes of laying out that the promise allows are equal
@@ -68,4 +69,4 @@ laying-unique {i} {new} {new'} {r} {r'} p p' = go (ℕ_discrete (first_of (check
         let a = p.laid e in
         let b = p'.laid e in
         let u = laid-unique i.query.graph (lent_of i.lent) a.1 b.1 in
-        (a.2 ∙ ap (λ (l : Laid). l.refusal) u.0 ∙ sym b.2, u.1)
+        (a.2 ∙ ap refusal_of u.0 ∙ sym b.2, u.1)

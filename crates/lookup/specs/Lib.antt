@@ -1,3 +1,4 @@
--- The laws that the proofs cite.
+-- Where the set of a search stands, and the laws that the proofs cite.
+pub mod Search
 pub mod FindLaws
 pub mod SeekLaws

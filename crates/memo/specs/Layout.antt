@@ -1,11 +1,15 @@
 -- What laying out leaves.
-use Rattle.std.specs.Prelude.{◌≡◌, List, map, ℕ, ◌≤◌, ◌<◌, length, replicate}
+use Rattle.std.specs.Prelude.{◌≡◌, List, map, ℕ, ◌≤◌, ◌<◌, length, replicate, Result, Ok, Err}
 use Rattle.rules.specs.Query.{Graph}
 use Rattle.rules.specs.Estimate.{estimate}
 use Rattle.rules.specs.Rows.{memo}
 use Rattle.rules.specs.Skips.{skips}
 use Rattle.rules.specs.Refusals.{Memory}
 use Rattle.memo.specs.declared.layout.Laid.{Laid}
+use Rattle.rules.specs.declared.refusal.Reason.TheVariants.{MemoRows, SkipCells}
+use Rattle.rules.specs.declared.refusal.Refusal.{Refusal}
+use Rattle.rules.specs.Verdict.{verdict_of}
+use Rattle.memo.specs.declared.lent.Memo.{Memo}
 use Rattle.skips.specs.Vectors.{written}
 
 -- what a caller lends to be laid out: the memo's columns and the skip cells
@@ -19,6 +23,19 @@ pub record Lent : Type 0 where
 
 abbrev pub lent : List ℕ → List ℕ → List ℕ → List ℕ → List ℕ → List ℕ → Lent
 lent s e c o m k = record { sets = s; estimates = e; costs = c; outers = o; methods = m; skips = k }
+
+-- what the lists hold
+abbrev pub held : Memo → Lent
+held m = lent m.sets.now m.estimates.now m.costs.now m.outers.now m.methods.now m.skips.now
+
+-- the same lists, whatever they hold
+pub record SameLists (old new : Memo) : Type 0 where
+  pub sets : new.sets.ghost_name ≡ old.sets.ghost_name
+  pub estimates : new.estimates.ghost_name ≡ old.estimates.ghost_name
+  pub costs : new.costs.ghost_name ≡ old.costs.ghost_name
+  pub outers : new.outers.ghost_name ≡ old.outers.ghost_name
+  pub methods : new.methods.ghost_name ≡ old.methods.ghost_name
+  pub skips : new.skips.ghost_name ≡ old.skips.ghost_name
 
 -- the part of a caller's memory that laying out writes
 abbrev pub lent_of : Memory → Lent
@@ -47,17 +64,22 @@ laid g old = record {
   skips = written old.skips 0 (skips g);
 }
 
-abbrev pub answered : ℕ → ℕ → ℕ → Laid
-answered refusal rows cells = record { refusal = refusal; rows = rows; cells = cells }
+-- "memo rows fewer than connected sets", "skip cells fewer than the sum of those sets' sizes"
+abbrev pub few_rows : Refusal
+few_rows = record { reason = MemoRows; place = 0 }
 
-abbrev pub refused : ℕ → Laid
-refused number = answered number 0 0
+abbrev pub few_cells : Refusal
+few_cells = record { reason = SkipCells; place = 0 }
+
+-- the number of an answer: 0 where there is no refusal
+abbrev pub refusal_of : Result Laid Refusal → ℕ
+refusal_of r = (verdict_of r).number
 
 abbrev pub counts : Graph → Laid
-counts g = answered 0 (length (memo g)) (length (skips g))
+counts g = record { rows = length (memo g); cells = length (skips g) }
 
 -- the answer and what is left of what was lent, in each of the three cases
-pub record LaidOut (g : Graph) (old new : Lent) (r : Laid) : Type 0 where
-  pub refused13 : length old.sets < length (memo g) → (r ≡ refused 13) × (new ≡ old)
-  pub refused14 : length (memo g) ≤ length old.sets → length old.skips < length (skips g) → (r ≡ refused 14) × (new ≡ old)
-  pub given : Room g old → (r ≡ counts g) × (new ≡ laid g old)
+pub record LaidOut (g : Graph) (old new : Lent) (r : Result Laid Refusal) : Type 0 where
+  pub refused13 : length old.sets < length (memo g) → (r ≡ Err few_rows) × (new ≡ old)
+  pub refused14 : length (memo g) ≤ length old.sets → length old.skips < length (skips g) → (r ≡ Err few_cells) × (new ≡ old)
+  pub given : Room g old → (r ≡ Ok (counts g)) × (new ≡ laid g old)

@@ -1,10 +1,10 @@
 -- Laws of laying out: the rows of one size in a list of all rows, their skip cells after those of the smaller sizes, the columns, the one outcome.
-use Rattle.std.specs.Prelude.{◌≡◌, refl, List, [], ◌++◌, ◌∷◌, ℕ, ◌+◌, ◌-◌, ◌*◌, ◌≤◌, ◌<◌, take, drop, replicate, set}
-use Rattle.std.proofs.Common.{sym, ap₂, ◌∙◌, zero-add, arith, lt-ltb, le-ltb, length-take, take-take, take_at, drop_at}
+use Rattle.std.specs.Prelude.{◌≡◌, refl, List, [], ◌++◌, ◌∷◌, ℕ, ◌+◌, ◌-◌, ◌*◌, ◌≤◌, ◌<◌, take, drop, replicate, Result, Err}
+use Rattle.std.proofs.Common.{sym, ◌∙◌, zero-add, arith, lt-ltb, le-ltb, length-take, take-take, take_at, drop_at}
 use Rattle.std.proofs.Math.Path.{ap}
 use Rattle.std.proofs.Math.Decide.{dec_lt}
-use Rattle.std.proofs.Math.ListN.{length, length-append}
-use Rattle.std.proofs.lemmas.List.{length-replicate, replicate-append-replicate}
+use Rattle.std.proofs.Math.ListN.{length, get_or, length-append}
+use Rattle.std.proofs.lemmas.List.{length-replicate}
 use Rattle.std.proofs.Math.Seq.{slice, length-sets}
 use Rattle.std.proofs.lemmas.List.Edits.{sets-eq}
 use Rattle.rules.specs.Limits.{max_tables}
@@ -15,16 +15,18 @@ use Rattle.rules.specs.Skips.{vectors_from, vectors, skips}
 use Rattle.rules.specs.Refusals.{Input, refuse, first_of, rooms, groups, checks_of}
 use Rattle.rules.specs.laws.Refusals.{AllAre, AllSame, same-groups}
 use Rattle.rows.specs.Sizes.{up_to}
+use Rattle.rows.specs.Tally.{Tally}
 use Rattle.rows.specs.WalkLaws.{wrote-both, up_to-more, length_more}
 use Rattle.rules.specs.laws.Lists.{row-split}
 use Rattle.skips.specs.SizeRows.{SizeRows}
 use Rattle.skips.specs.Vectors.{written}
 use Rattle.lookup.specs.FindLaws.{rows-sized}
 use Rattle.starts.specs.Starts.{cells_to}
-use Rattle.starts.specs.CountLaws.{written-push, cells-size, cells_count}
+use Rattle.starts.specs.CountLaws.{cells-size, cells_count}
 use Rattle.skips.specs.VectorLaws.{vectors-of}
 use Rattle.memo.specs.declared.layout.Laid.{Laid}
-use Rattle.memo.specs.Layout.{Lent, lent, lent_of, Room, laid, refused, answered, counts, LaidOut, OneLength}
+use Rattle.rules.specs.declared.refusal.Refusal.{Refusal}
+use Rattle.memo.specs.Layout.{Lent, lent, lent_of, Room, refusal_of, few_rows, LaidOut, OneLength}
 
 -- ---- lists in a row
 row-whole : {C : Type 0} (f : ℕ → List C) (k n : ℕ) → k ≤ n → in_row f 1 n ≡ in_row f 1 k ++ in_row f (1 + k) (n - k)
@@ -68,8 +70,8 @@ pub record NextSize (g : Graph) (k from count at : ℕ) (s : List ℕ) : Type 0 
   pub many : count ≡ length (rows_of g (k + 1))
   pub cells-begin : at ≡ length (cells_to g k)
 
-pub next-size : (g : Graph) (k from count at : ℕ) (s : List ℕ) → table_count g ≤ max_tables → k < table_count g → take (length (memo g)) s ≡ memo g → from ≡ length (up_to g k) → count ≡ length (rows_of g (k + 1)) → at ≡ length (cells_to g k) → NextSize g k from count at s
-next-size g k from count at s a b c d e f = record { few = a; more = b; all-rows = c; begins = d; many = e; cells-begin = f }
+pub next-size : {g : Graph} {counts s : List ℕ} (k from at : ℕ) → Tally g counts → table_count g ≤ max_tables → k < table_count g → take (length (memo g)) s ≡ memo g → from ≡ length (up_to g k) → at ≡ length (cells_to g k) → NextSize g k from (get_or counts (k + 1) 0) at s
+next-size k from at t a b c d e = record { few = a; more = b; all-rows = c; begins = d; many = t.sizes k b; cells-begin = e }
 
 module _ {g : Graph} {k from count at : ℕ} {s : List ℕ} (z : NextSize g k from count at s) where
   pub rows_next : from + count ≡ length (up_to g (k + 1))
@@ -117,38 +119,27 @@ front v d {l} {n} h e w = ap (take n) (w ∙ written_over v d h) ∙ take_at v (
 pub still-long : (v d : List ℕ) {l : List ℕ} → l ≡ written d 0 v → length l ≡ length d
 still-long v d w = ap length w ∙ length-sets d 0 v
 
-pub zeros-laid : (g : Graph) (old : List ℕ) {l : List ℕ} {n : ℕ} → n ≡ length (memo g) → l ≡ written old 0 (replicate n 0) → l ≡ written old 0 (replicate (length (memo g)) 0)
-zeros-laid g old e w = w ∙ ap (λ (k : ℕ). written old 0 (replicate k 0)) e
-
--- a column as long as another that has room
-pub has_room : {n m a b : ℕ} → n ≡ m → m ≤ a → b ≡ a → n ≤ b
-has_room e h f = omega arith
+-- a column whose first cells are cleared
+pub zeros-laid : (g : Graph) (old : List ℕ) {zeros : List ℕ} {n : ℕ} → n ≡ length (memo g) → length (memo g) ≤ length old → zeros ≡ replicate (length (take n old)) 0 → zeros ++ drop n old ≡ written old 0 (replicate (length (memo g)) 0)
+zeros-laid g old e l z =
+    let none : ℕ = 0 in
+    let long : length (replicate (length (memo g)) none) ≡ length (memo g) = length-replicate (length (memo g)) none in
+    let part : length (take (length (memo g)) old) ≡ length (memo g) = omega (arith, length-take (length (memo g)) old) in
+    rw (z, e, part) (sym (written_over (replicate (length (memo g)) none) old (omega (arith, long)) ∙ (rw long)))
 
 pub lent_same : {s e c o m k s' e' c' o' m' k' : List ℕ} → s ≡ s' → e ≡ e' → c ≡ c' → o ≡ o' → m ≡ m' → k ≡ k' → lent s e c o m k ≡ lent s' e' c' o' m' k'
 lent_same a b c d e f = rw (a, b, c, d, e, f)
 
 -- ---- the three cases
-pub counted : (g : Graph) (n m : ℕ) {r : Laid} → n ≡ length (memo g) → m ≡ length (skips g) → r ≡ answered 0 n m → r ≡ counts g
-counted g n m e f q = q ∙ ap₂ (answered 0) e f
-
 module _ (g : Graph) (old : Lent) where
-  pub too-few-rows : {r : Laid} {n : ℕ} → n ≡ length (memo g) → length old.sets < n → r ≡ refused 13 → LaidOut g old old r
+  pub too-few-rows : {r : Result Laid Refusal} {n : ℕ} → n ≡ length (memo g) → length old.sets < n → r ≡ Err few_rows → LaidOut g old old r
   too-few-rows e h q = record { refused13 = λ a. (q, refl); refused14 = λ a b. absurd (omega arith); given = λ a. absurd (omega arith) }
 
-  pub too-few-cells : {r : Laid} {n m : ℕ} → n ≡ length (memo g) → n ≤ length old.sets → m ≡ length (skips g) → length old.skips < m → r ≡ refused 14 → LaidOut g old old r
-  too-few-cells e h f k q = record { refused13 = λ a. absurd (omega arith); refused14 = λ a b. (q, refl); given = λ a. absurd (omega arith) }
-
-  pub room_for : {n m : ℕ} → n ≡ length (memo g) → n ≤ length old.sets → m ≡ length (skips g) → m ≤ length old.skips → Room g old
-  room_for e h f k = record { rows = omega arith; cells = omega arith }
-
-  pub enough : {new : Lent} {r : Laid} → Room g old → r ≡ counts g → new ≡ laid g old → LaidOut g old new r
-  enough h q w = record { refused13 = λ a. absurd (omega arith); refused14 = λ a b. absurd (omega arith); given = λ a. (q, w) }
-
   -- ONE OUTCOME for what was lent
-  pub laid-unique : {new new' : Lent} {r r' : Laid} → LaidOut g old new r → LaidOut g old new' r' → (r ≡ r') × (new ≡ new')
+  pub laid-unique : {new new' : Lent} {r r' : Result Laid Refusal} → LaidOut g old new r → LaidOut g old new' r' → (r ≡ r') × (new ≡ new')
   laid-unique {new} {new'} {r} {r'} a b = go (dec_lt (length old.sets) (length (memo g))) (dec_lt (length old.skips) (length (skips g)))
     where
-      both : {q : Laid} {l : Lent} → (r ≡ q) × (new ≡ l) → (r' ≡ q) × (new' ≡ l) → (r ≡ r') × (new ≡ new')
+      both : {q : Result Laid Refusal} {l : Lent} → (r ≡ q) × (new ≡ l) → (r' ≡ q) × (new' ≡ l) → (r ≡ r') × (new ≡ new')
       both x y = (x.0 ∙ sym y.0, x.1 ∙ sym y.1)
 
       go : Dec (length old.sets < length (memo g)) → Dec (length old.skips < length (skips g)) → (r ≡ r') × (new ≡ new')
@@ -157,17 +148,17 @@ module _ (g : Graph) (old : Lent) where
       go (no h) (no k) = let l : Room g old = record { rows = omega arith; cells = omega arith } in both (a.given l) (b.given l)
 
 -- the answer's number is what the rules say of refusals 13 and 14
-pub laid-verdict : (i : Input) {new : Lent} {r : Laid} → LaidOut i.query.graph (lent_of i.lent) new r → r.refusal ≡ (first_of (rooms i)).number
+pub laid-verdict : (i : Input) {new : Lent} {r : Result Laid Refusal} → LaidOut i.query.graph (lent_of i.lent) new r → refusal_of r ≡ (first_of (rooms i)).number
 unfolding rooms first_of refuse
 laid-verdict i {new} {r} a = go (dec_lt (length i.lent.sets) (length (memo g))) (dec_lt (length i.lent.skips) (length (skips g)))
   where
     g : Graph
     g = i.query.graph
 
-    number : {q : Laid} → r ≡ q → r.refusal ≡ q.refusal
-    number e = ap (λ (x : Laid). x.refusal) e
+    number : {q : Result Laid Refusal} → r ≡ q → refusal_of r ≡ refusal_of q
+    number e = ap refusal_of e
 
-    go : Dec (length i.lent.sets < length (memo g)) → Dec (length i.lent.skips < length (skips g)) → r.refusal ≡ (first_of (rooms i)).number
+    go : Dec (length i.lent.sets < length (memo g)) → Dec (length i.lent.skips < length (skips g)) → refusal_of r ≡ (first_of (rooms i)).number
     go (yes h) d = rw (lt-ltb (length i.lent.sets) (length (memo g)) h) (number (a.refused13 h).0)
     go (no h) (yes k) =
         let l : length (memo g) ≤ length i.lent.sets = omega arith in
@@ -185,9 +176,3 @@ unfolding AllSame AllAre groups
 one-length q workers scheme turns log old e =
     let h = (same-groups q workers scheme turns (length old.sets ∷ length old.estimates ∷ length old.costs ∷ length old.outers ∷ length old.methods ∷ []) log e).1.1.1.0 in
     record { estimates = h.0; costs = h.1.0; outers = h.1.1.0; methods = h.1.1.1.0 }
-
--- a column of zeros: one more
-pub zeros-more : (d : List ℕ) (i : ℕ) {l : List ℕ} → l ≡ written d 0 (replicate i 0) → set l i 0 ≡ written d 0 (replicate (i + 1) 0)
-zeros-more d i e =
-    let z : ℕ = 0 in
-    rw e (written-push d 0 i (replicate i 0) 0 (omega (arith, length-replicate i z)) ∙ ap (written d 0) (replicate-append-replicate i 1 0))

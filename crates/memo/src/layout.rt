@@ -1,129 +1,78 @@
 // Laying out the memo as a whole.
 ghost use Rattle.std.specs.Prelude.{◌≡◌, ◌≤◌, length, take, replicate};
-ghost use Rattle.rules.specs.Query.{graph_of};
-ghost use Rattle.rules.specs.Checked.{GoodGraph};
 ghost use Rattle.rules.specs.Rows.{memo};
 ghost use Rattle.rules.specs.Skips.{skips};
-ghost use Rattle.rows.specs.Tally.{Tally};
 ghost use Rattle.skips.specs.Vectors.{written};
-ghost use Rattle.memo.specs.Layout.{lent, OneLength, Room, laid, answered, LaidOut};
+ghost use Rattle.memo.specs.Layout.{held, SameLists, OneLength, Room, laid, LaidOut};
 
+use super::lent::Memo;
 use fill::lay_rows;
-use rows::tally::{all_cells, all_rows};
+use rows::tally::Tally;
+use rules::refusal::{Reason, Refusal};
 use skips::fill_vectors;
 
-// What laying out answers: 0 or the refusal's number, and how many rows and cells there are, 0 where refused.
+// How many rows and skip cells have been laid out.
 #[derive(Clone, Copy)]
 pub struct Laid {
-    pub refusal: u64,
     pub rows: u64,
     pub cells: u64,
 }
 
-fn answer(refusal: u64, rows: usize, cells: usize) -> Laid
-    ensures { result ≡ answered refusal rows cells }
+// Writes the skip vectors of all sizes, in memo order; `sets` begins with the sets of all rows.
+fn lay_skips(tally: &Tally, sets: &[u64], out: &mut [u64])
+    requires sets { take (length (memo tally.now.graph.now)) sets.now ≡ memo tally.now.graph.now }
+    requires room { length (skips tally.now.graph.now) ≤ length out.old }
+    ensures { out.new ≡ written out.old 0 (skips tally.now.graph.now) }
 {
-    Laid {
-        refusal: refusal,
-        rows: rows as u64,
-        cells: cells as u64,
-    }
-}
-
-// Clears the first `count` cells.
-fn lay_zeros(count: usize, out: &mut [u64])
-    requires { count ≤ length out.old }
-    ensures { out.new ≡ written out.old 0 (replicate count 0) }
-{
-    for i in 0..count {
-        out[i] = 0;
-    }
-}
-
-// Writes the skip vectors of all sizes, in memo order; `sets` begins with the sets of all rows, `counts` is their tally.
-fn lay_skips(
-    rows: &[u64],
-    left: &[u64],
-    right: &[u64],
-    divisors: &[u64],
-    counts: &[usize],
-    sets: &[u64],
-    out: &mut [u64],
-)
-    requires good_graph { GoodGraph (graph_of rows.now left.now right.now divisors.now) }
-    requires tally { Tally (graph_of rows.now left.now right.now divisors.now) counts.now }
-    requires sets { take (length (memo (graph_of rows.now left.now right.now divisors.now))) sets.now ≡ memo (graph_of rows.now left.now right.now divisors.now) }
-    requires room { length (skips (graph_of rows.now left.now right.now divisors.now)) ≤ length out.old }
-    ensures { out.new ≡ written out.old 0 (skips (graph_of rows.now left.now right.now divisors.now)) }
-{
+    let graph = tally.graph;
     let mut from = 0usize;
     let mut at = 0usize;
-    for k in 0..rows.len() {
-        let count = counts[k + 1];
+    for k in 0..graph.rows.len() {
+        let count = tally.counts[k + 1];
         fill_vectors(sets, from, from + count, k + 1, out, at);
         from += count;
         at += count * (k + 1);
     }
 }
 
-// Writes every column and the skip cells; `counts` is the tally of the rows, `count` their number.
-fn lay_columns(
-    rows: &[u64],
-    left: &[u64],
-    right: &[u64],
-    divisors: &[u64],
-    counts: &[usize],
-    count: usize,
-    sets: &mut [u64],
-    estimates: &mut [u64],
-    costs: &mut [u64],
-    outers: &mut [u64],
-    methods: &mut [u64],
-    skips: &mut [u64],
-)
-    requires good_graph { GoodGraph (graph_of rows.now left.now right.now divisors.now) }
-    requires one_length { OneLength (lent sets.old estimates.old costs.old outers.old methods.old skips.old) }
-    requires room { Room (graph_of rows.now left.now right.now divisors.now) (lent sets.old estimates.old costs.old outers.old methods.old skips.old) }
-    requires tally { Tally (graph_of rows.now left.now right.now divisors.now) counts.now }
-    requires count { count ≡ length (memo (graph_of rows.now left.now right.now divisors.now)) }
-    ensures { lent sets.new estimates.new costs.new outers.new methods.new skips.new ≡ laid (graph_of rows.now left.now right.now divisors.now) (lent sets.old estimates.old costs.old outers.old methods.old skips.old) }
+// Writes every column and the skip cells; `count` is the number of the rows.
+fn lay_columns(tally: &Tally, count: usize, lent: &mut Memo)
+    requires one_length { OneLength (held lent.old) }
+    requires room { Room tally.now.graph.now (held lent.old) }
+    requires count { count ≡ length (memo tally.now.graph.now) }
+    ensures same { SameLists lent.old lent.new }
+    ensures laid { held lent.new ≡ laid tally.now.graph.now (held lent.old) }
 {
-    lay_rows(rows, left, right, divisors, counts, sets, estimates);
-    lay_zeros(count, costs);
-    lay_zeros(count, outers);
-    lay_zeros(count, methods);
-    lay_skips(rows, left, right, divisors, counts, sets, skips);
+    let sets = &mut *lent.sets;
+    let estimates = &mut *lent.estimates;
+    lay_rows(tally, sets, estimates);
+    let costs = &mut *lent.costs;
+    costs[..count].fill(0);
+    let outers = &mut *lent.outers;
+    outers[..count].fill(0);
+    let methods = &mut *lent.methods;
+    methods[..count].fill(0);
+    let skips = &mut *lent.skips;
+    lay_skips(tally, sets, skips);
 }
 
-// Lays out the memo, whose rows `counts` tells, or answers refusal 13 or 14 where a lent list is too short; nothing is written before both counts have passed.
-pub fn lay_out(
-    rows: &[u64],
-    left: &[u64],
-    right: &[u64],
-    divisors: &[u64],
-    counts: &[usize],
-    sets: &mut [u64],
-    estimates: &mut [u64],
-    costs: &mut [u64],
-    outers: &mut [u64],
-    methods: &mut [u64],
-    skips: &mut [u64],
-) -> Laid
-    requires good_graph { GoodGraph (graph_of rows.now left.now right.now divisors.now) }
-    requires one_length { OneLength (lent sets.old estimates.old costs.old outers.old methods.old skips.old) }
-    requires tally { Tally (graph_of rows.now left.now right.now divisors.now) counts.now }
-    ensures { LaidOut (graph_of rows.now left.now right.now divisors.now) (lent sets.old estimates.old costs.old outers.old methods.old skips.old) (lent sets.new estimates.new costs.new outers.new methods.new skips.new) result }
+// Lays out the memo, or answers refusal 13 or 14 where a lent list is too short; nothing is written before both counts have passed.
+pub fn lay_out(tally: &Tally, lent: &mut Memo) -> Result<Laid, Refusal>
+    requires { OneLength (held lent.old) }
+    ensures same { SameLists lent.old lent.new }
+    ensures laid { LaidOut tally.now.graph.now (held lent.old) (held lent.new) result }
 {
-    let count = all_rows(rows, left, right, divisors, counts);
-    if sets.len() < count {
-        return answer(13, 0, 0);
+    let rows = tally.rows();
+    if lent.sets.len() < rows {
+        return Err(Reason::MemoRows.at(0));
     }
-    let cells = all_cells(rows, left, right, divisors, counts);
-    if skips.len() < cells {
-        return answer(14, 0, 0);
+    let cells = tally.cells();
+    if lent.skips.len() < cells {
+        return Err(Reason::SkipCells.at(0));
     }
-    lay_columns(
-        rows, left, right, divisors, counts, count, sets, estimates, costs, outers, methods, skips,
-    );
-    answer(0, count, cells)
+    lay_columns(tally, rows, lent);
+    Ok(Laid {
+        rows: rows as u64,
+        cells: cells as u64,
+    })
 }

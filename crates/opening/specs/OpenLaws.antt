@@ -10,11 +10,16 @@ use Rattle.rules.specs.Shares.{met}
 use Rattle.shares.specs.declared.places.Place.{Place}
 use Rattle.shares.specs.declared.Share.{Share}
 use Rattle.shares.specs.Shares.{share_of, ShareOf}
-use Rattle.pairs.specs.Places.{NextFrom}
+use Rattle.pairs.specs.Places.{Fit, Ground, NextFrom, count_to}
+use Rattle.pairs.specs.GroundLaws.{count-met}
 use Rattle.pairs.specs.UniqueLaws.{next-unique}
 use Rattle.crew.specs.declared.Worker.{Worker}
 use Rattle.crew.specs.Workers.{nobody, worker_at}
 use Rattle.opening.specs.Opening.{Opening, Opened}
+
+-- all candidates of the group are counted
+pub count-all : {g : Graph} {sets cells starts cell_starts : List ℕ} {group : Group} {total : ℕ} → Ground g sets cells starts cell_starts → Fit g group → total ≡ count_to starts group group.last → total ≡ length (met g group)
+count-all {g} {sets} {cells} {starts} {cell_starts} {group} z fit e = e ∙ count-met g sets cells starts cell_starts z group fit
 
 -- a worker's share of the group
 pub share-is : (g : Graph) (group : Group) (crew : Crew) (w : ℕ) {total : ℕ} {h : Share} → total ≡ length (met g group) → h ≡ share_of crew w total → h ≡ share_of crew w (length (met g group))
@@ -24,11 +29,8 @@ pub share-ready : (g : Graph) (group : Group) (crew : Crew) (w : ℕ) {h : Share
 share-ready g group crew w one eight l e = rw e (record { some-worker = one; few-workers = eight; worker = l; is = refl })
 
 module _ (g : Graph) (group : Group) (crew : Crew) (old : List Worker) where
-  pub opening-none : Opening g group crew 0 old old
-  opening-none = record { length-kept = refl; first = λ w l. absurd (omega arith); worker = λ w l. absurd (omega arith); others = λ w l. refl }
-
-  -- one more worker at its first pair, set in place
-  opening-set : {new : List Worker} (k : ℕ) (h : Share) (p : Place) → Opening g group crew k old new → k < length old → h ≡ share_of crew k (length (met g group)) → NextFrom g group h 0 p
+  -- one more worker at its first pair
+  pub opening-set : {new : List Worker} (k : ℕ) (h : Share) (p : Place) → Opening g group crew k old new → k < length old → h ≡ share_of crew k (length (met g group)) → NextFrom g group h 0 p
       → Opening g group crew (k + 1) old (set new k (record { share = h; place = p; last = 0; handed = (worker_at new k).handed }))
   opening-set {new} k h p z l e n = record {
     length-kept = length-set new k v ∙ z.length-kept;
@@ -51,11 +53,6 @@ module _ (g : Graph) (group : Group) (crew : Crew) (old : List Worker) where
           → worker_at (set new k v) w ≡ record { share = share_of crew w (length (met g group)); place = (worker_at (set new k v) w).place; last = 0; handed = (worker_at old w).handed }
       worker w u (yes q) = rw (q, here) (λ t. record { share = e t; place = p; last = 0; handed = ap (λ (x : Worker). x.handed) (z.others k (omega arith)) t })
       worker w u (no q) = rw (get_or-set_other new k w v nobody q) (z.worker w (omega arith))
-
-  -- one more worker at its first pair, read and stored
-  pub opening-more : {new : List Worker} (k : ℕ) (h : Share) (p : Place) (v : Worker) (next : List Worker) → v ≡ worker_at new k → next ≡ set new k (record { share = h; place = p; last = 0; handed = v.handed })
-      → Opening g group crew k old new → k < length old → h ≡ share_of crew k (length (met g group)) → NextFrom g group h 0 p → Opening g group crew (k + 1) old next
-  opening-more k h p v next i r z l e n = rw (r, i) (opening-set k h p z l e n)
 
 -- a group is opened in one way
 pub opened-unique : {g : Graph} {group : Group} {crew : Crew} {old new new' : List Worker} → Opened g group crew old new → Opened g group crew old new' → new ≡ new'

@@ -1,5 +1,5 @@
 -- Laws of the memo as laying out leaves it, of a worker's own candidates, and of what is left to a worker.
-use Rattle.std.specs.Prelude.{◌≡◌, Bool, true, false, cond, ◌&&◌, List, [], ◌∷◌, eqb, get_or, take, drop}
+use Rattle.std.specs.Prelude.{◌≡◌, Bool, true, false, cond, ◌&&◌, List, [], ◌∷◌, eqb, get_or, take, drop, Some, None}
 use Rattle.std.proofs.Math.Path.{refl, sym, ap}
 use Rattle.std.proofs.Common.{◌∙◌, mul-le-mul_right, suc-mul, mul-suc, pow_mono, length-append, length-take, drop_of_length-le, get_or-take, drop-cons}
 use mathlib.Core.List.Memᴰ
@@ -31,6 +31,7 @@ use Rattle.sets.specs.Laws.{rank-at, rank_lt}
 use Rattle.rows.specs.WalkLaws.{rows_fit}
 use Rattle.skips.specs.VectorLaws.{vectors-cells}
 use Rattle.shares.specs.declared.places.Place.{Place}
+use Rattle.shares.specs.declared.places.Spot.{Spot}
 use Rattle.shares.specs.declared.Share.{Share}
 use Rattle.shares.specs.Shares.{ShareOf, crew_of, in_span, span_of, on_span}
 use Rattle.pairs.specs.Joinable.{is_joinable}
@@ -261,10 +262,10 @@ module _ (g : Graph) (sets cells starts cell_starts : List ℕ) (z : Ground g se
 
 -- ---- what is left to a worker
 -- the place of a candidate has its number
-pub at-number : (g : Graph) (group : Group) (p : Place) → At g group p → (p.number < length (met g group)) × (met_numbered g group p.number ≡ candidate_at g group p.size p.row p.inner)
-at-number g group p a = rw a.number (
-  met-inside g group p.size p.row p.inner a.from_one a.to_last a.row_from a.row-to a.inner-from a.inner-to,
-  met_at g group p.size p.row p.inner a.from_one a.to_last a.row_from a.row-to a.inner-from a.inner-to,
+pub at-number : (g : Graph) (group : Group) (x : ℕ) (s : Spot) → At g group x s → (x < length (met g group)) × (met_numbered g group x ≡ candidate_at g group s.size s.row s.inner)
+at-number g group x s a = rw a.number (
+  met-inside g group s.size s.row s.inner a.from_one a.to_last a.row_from a.row-to a.inner-from a.inner-to,
+  met_at g group s.size s.row s.inner a.from_one a.to_last a.row_from a.row-to a.inner-from a.inner-to,
 )
 
 module _ (g : Graph) (group : Group) (h : Share) where
@@ -280,13 +281,13 @@ module _ (g : Graph) (group : Group) (h : Share) where
 
   module _ (p : Place) (w : Waits g group h p) where
     -- where it waits at a pair, that pair is the next of its queue
-    pub queue-here : p.left ≡ true → queue_at g group h p.number ≡ met_numbered g group p.number ∷ queue_at g group h (p.number + 1)
+    pub queue-here : (s : Spot) → p.pair ≡ Some s → queue_at g group h p.number ≡ met_numbered g group p.number ∷ queue_at g group h (p.number + 1)
     unfolding keep
-    queue-here t =
-        let r = w.there t in
-        rw (drop-cons (met g group) p.number no_candidate (at-number g group p r.0).0, r.1, add-one p.number) refl
+    queue-here s e =
+        let r = w.there s e in
+        rw (drop-cons (met g group) p.number no_candidate (at-number g group p.number s r.0).0, r.1, add-one p.number) refl
 
     -- where it has none, nothing is left
-    pub queue-none : p.left ≡ false → queue_at g group h p.number ≡ []
+    pub queue-none : p.pair ≡ None → queue_at g group h p.number ≡ []
     unfolding keep
     queue-none f = rw (w.none f, drop-length (met g group))

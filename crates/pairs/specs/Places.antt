@@ -1,5 +1,5 @@
 -- Places among the candidates of a group, said by rows of the memo, and what the search from a place on finds.
-use Rattle.std.specs.Prelude.{◌≡◌, Bool, true, false, cond, List, ℕ, zero, suc, ◌+◌, ◌-◌, ◌*◌, ◌/◌, ◌%◌, ◌^◌, ◌≤◌, ◌<◌, eqb, length, get_or, take, drop}
+use Rattle.std.specs.Prelude.{◌≡◌, Bool, true, false, cond, List, ℕ, zero, suc, ◌+◌, ◌-◌, ◌*◌, ◌/◌, ◌%◌, ◌^◌, ◌≤◌, ◌<◌, eqb, length, get_or, take, drop, Some, None}
 use Rattle.rules.specs.Limits.{max_tables}
 use Rattle.rules.specs.Lists.{keep}
 use Rattle.rules.specs.Sets.{holds, Disjoint, size, rank}
@@ -13,6 +13,7 @@ use Rattle.rules.specs.laws.Standing.{mine}
 use Rattle.rows.specs.Sizes.{up_to}
 use Rattle.starts.specs.Starts.{cells_to}
 use Rattle.shares.specs.declared.places.Place.{Place}
+use Rattle.shares.specs.declared.places.Spot.{Spot}
 use Rattle.shares.specs.declared.Share.{Share}
 use Rattle.shares.specs.declared.Span.{Span}
 use Rattle.shares.specs.Nowhere.{nowhere}
@@ -145,20 +146,20 @@ pub record RowFrom (g : Graph) (group : Group) (d i x : ℕ) : Type 0 where
   pub at-end : group.last < d → i ≡ start_of g d
   pub ahead : x ≡ ahead_of g group d i
 
--- the place is that of a candidate of the group
-pub record At (g : Graph) (group : Group) (p : Place) : Type 0 where
-  pub from_one : 1 ≤ p.size
-  pub to_last : Drives g group p.size
-  pub row_from : start_of g p.size ≤ p.row
-  pub row-to : p.row < start_of g (p.size + 1)
-  pub inner-from : first_row g group p.size p.row ≤ p.inner
-  pub inner-to : p.inner < end_row g group p.size
-  pub number : p.number ≡ ahead_of g group p.size p.row + (p.inner - first_row g group p.size p.row)
+-- the candidate of the group with number x stands at s
+pub record At (g : Graph) (group : Group) (x : ℕ) (s : Spot) : Type 0 where
+  pub from_one : 1 ≤ s.size
+  pub to_last : Drives g group s.size
+  pub row_from : start_of g s.size ≤ s.row
+  pub row-to : s.row < start_of g (s.size + 1)
+  pub inner-from : first_row g group s.size s.row ≤ s.inner
+  pub inner-to : s.inner < end_row g group s.size
+  pub number : x ≡ ahead_of g group s.size s.row + (s.inner - first_row g group s.size s.row)
 
 -- "each with its own place": at the worker's next joinable pair, or nowhere
 pub record Waits (g : Graph) (group : Group) (h : Share) (p : Place) : Type 0 where
-  pub there : p.left ≡ true → At g group p × (own_at g group h p.number ≡ true)
-  pub none : p.left ≡ false → p ≡ nowhere (length (met g group))
+  pub there : (s : Spot) → p.pair ≡ Some s → At g group p.number s × (own_at g group h p.number ≡ true)
+  pub none : p.pair ≡ None → p ≡ nowhere (length (met g group))
 
 -- the worker's next joinable pair among the candidates numbered x and on, or none
 pub record NextFrom (g : Graph) (group : Group) (h : Share) (x : ℕ) (p : Place) : Type 0 where

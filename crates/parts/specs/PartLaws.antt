@@ -1,7 +1,7 @@
 -- Laws of the tables' parts: storing them, dividing by them, and an estimate carried on by one table.
-use Rattle.std.specs.Prelude.{◌≡◌, Bool, true, false, List, ◌⊎◌, eqb, length, get_or, set}
+use Rattle.std.specs.Prelude.{◌≡◌, true, false, List, ◌⊎◌, eqb, length, get_or, set}
 use Rattle.std.proofs.Math.Path.{refl, sym, ap}
-use Rattle.std.proofs.Common.{◌∙◌, inl, inr, mul-le-mul, arith, length-set, pow_mono, get_or-set_same, get_or-set_other}
+use Rattle.std.proofs.Common.{◌∙◌, inl, inr, arith, length-set, get_or-set_same, get_or-set_other}
 use Rattle.std.proofs.Math.Bool.{cond}
 use Prim.Native.Nat.{ℕ, zero, suc, ◌+◌, ◌-◌, ◌*◌, ◌^◌, ◌≤◌, ◌<◌, ◌/◌, min, max}
 use Rattle.std.proofs.Math.Decide.{ℕ_discrete}
@@ -13,47 +13,22 @@ use Rattle.rules.specs.Query.{Graph, table_count, edge_count, at, IsTable, Joins
 use Rattle.rules.specs.Checked.{GoodGraph}
 use Rattle.rules.specs.Estimate.{joins_at, divided, by_edges, by_lower, with_table, running, estimate}
 use Rattle.rules.specs.laws.Bools.{true-or-false}
-use Rattle.rules.specs.laws.Sets.{bit_le, holds-bit, holds-none, holds-pos, holds-lt, lt-of-holds, holds-sum, holds-single, holds-single-only, holds-out, holds-minus, union-of}
+use Rattle.rules.specs.laws.Sets.{holds-pos, holds-lt, lt-of-holds, holds-sum, holds-single, holds-single-only, holds-out, holds-minus, union-of}
 use Rattle.rules.specs.laws.Refusals.{joins_true, true-joins}
 use Rattle.rules.proofs.laws.Estimate.{running-le}
+use Rattle.graph.specs.declared.chosen.Chosen.{Chosen}
+use Rattle.query.specs.EdgeLaws.{holds-le}
 use Rattle.graph.specs.Node.{Node}
 use Rattle.graph.specs.ApartLaws.{apart-tables, below-with}
 use Rattle.graph.specs.NearLaws.{both_of, both-in, in_right}
-use Rattle.parts.specs.Parts.{cell_of, Own, Parts, by_parts, Divides, Valued}
+use Rattle.parts.specs.Parts.{cell_of, Parts, by_parts, Divides, Valued}
 
 -- ---- cells
-pub cell-fits : (t u : ℕ) → 1 ≤ t → t ≤ max_tables → 1 ≤ u → u ≤ max_tables → cell_of t u < 256
-cell-fits t u a b c d = omega arith
-
 same-cell : (t u a b : ℕ) → (1 ≤ u) × (u ≤ max_tables) → (1 ≤ b) × (b ≤ max_tables) → 1 ≤ t → 1 ≤ a → cell_of t u ≡ cell_of a b → (t ≡ a) × (u ≡ b)
 same-cell t u a b p q r s e = (omega arith, omega arith)
 
 -- ---- storing
-module _ (rows parts : List ℕ) where
-  pub own-end : {n m : ℕ} → n ≡ m → Own rows n parts → Own rows m parts
-  own-end e h = rw e at h
-
-  pub own-none : Own rows 0 parts
-  own-none = record { rows_of = λ t a b. absurd (omega arith) }
-
-  -- the rows of table k + 1
-  pub own-more : (k : ℕ) {v : ℕ} → k < max_tables → length parts ≡ 256 → v ≡ max 1 (get_or rows k 0) → Own rows k parts → Own rows (k + 1) (set parts (k * 16 + k) v)
-  own-more k {v} l n e o = record { rows_of = λ t a b. go t a b (ℕ_discrete t (k + 1)) }
-    where
-      go : (t : ℕ) → 1 ≤ t → t ≤ k + 1 → Dec (t ≡ k + 1) → get_or (set parts (k * 16 + k) v) (cell_of t t) 0 ≡ max 1 (at rows t)
-      go t a b (yes z) =
-          let c : k * 16 + k ≡ cell_of t t = omega arith in
-          let d : k ≡ t - 1 = omega arith in
-          rw (← c) (get_or-set_same parts (k * 16 + k) v 0 (omega arith)) ∙ e ∙ ap (λ (i : ℕ). max 1 (get_or rows i 0)) d
-      go t a b (no z) = get_or-set_other parts (k * 16 + k) (cell_of t t) v 0 (λ c. omega arith) ∙ o.rows_of t a (omega arith)
-
 module _ (g : Graph) where
-  pub parts_none : {parts : List ℕ} → Own g.rows (table_count g) parts → Parts g 0 parts
-  parts_none o = record { own = o; divisors = λ t u i l. absurd (omega arith) }
-
-  pub parts-end : {n : ℕ} {parts : List ℕ} → n ≡ edge_count g → Parts g n parts → Parts g (edge_count g) parts
-  parts-end e h = rw e at h
-
   -- the tables of an edge
   pub ends-fit : (j t u : ℕ) → GoodGraph g → j < edge_count g → Joins g j t u → (1 ≤ t) × (t ≤ max_tables) × (1 ≤ u) × (u ≤ max_tables)
   ends-fit j t u good k (inl e) =
@@ -146,10 +121,6 @@ module _ (g : Graph) (u t r : ℕ) where
       go (no e) ih = rw (joins-not n (λ p. (good.edges n (omega arith)).new i (omega arith) (both-join n i p o))) (ih (omega arith))
 
 -- ---- tables of a set
-holds-le : (S u : ℕ) → holds S u ≤ 1
-holds-le S zero = omega (arith, holds-none S)
-holds-le S (suc i) = omega (arith, holds-bit S i, bit_le i S)
-
 not-held : (S u : ℕ) → (holds S u ≡ 1 → ⊥) → holds S u ≡ 0
 not-held S u h = go (ℕ_discrete (holds S u) 1)
   where
@@ -200,9 +171,9 @@ module _ (parts : List ℕ) (t : ℕ) where
 
     -- a turn of the loop: x is the lowest table as a set, v the value after it
     module _ (x : ℕ) (ex : x ≡ single u) (d : Divides parts t S) where
-      pub linked-step : (L e c v : ℕ) → c ≡ cell_of t u → v ≡ max 1 (r / get_or parts c 0) → by_parts parts S t (t - 1) r ≡ by_parts parts L t (t - 1) e → by_parts parts (S - x) t (t - 1) v ≡ by_parts parts L t (t - 1) e
+      pub linked-step : (L e c v : ℕ) → c ≡ cell_of t u → v ≡ max (r / get_or parts c 0) 1 → by_parts parts S t (t - 1) r ≡ by_parts parts L t (t - 1) e → by_parts parts (S - x) t (t - 1) v ≡ by_parts parts L t (t - 1) e
       unfolding divided
-      linked-step L e c v ec i h = rw (i, ec, ex) (sym (linked-first (t - 1) (holds-lt (t - 1) S u d.below w.stands).1)) ∙ h
+      linked-step L e c v ec i h = let j : v ≡ max 1 (r / get_or parts c 0) = omega arith in rw (j, ec, ex) (sym (linked-first (t - 1) (holds-lt (t - 1) S u d.below w.stands).1)) ∙ h
 
       pub divides-rest : Divides parts t (S - x)
       divides-rest = record { some = d.some; few = d.few; below = omega (arith, d.below); divisor = λ j h. d.divisor j (in_right out j (rw ex at h)) }
@@ -213,23 +184,10 @@ module _ (parts : List ℕ) (t : ℕ) where
   pub lowest-fits : (S u : ℕ) → Lowest S u → Divides parts t S → (1 ≤ u) × (u ≤ max_tables)
   lowest-fits S u w d = let o = holds-lt (t - 1) S u d.below w.stands in (o.0, omega (arith, o.1, d.few))
 
-  pub divisor-at : (S u c : ℕ) → Lowest S u → Divides parts t S → c ≡ cell_of t u → 1 ≤ get_or parts c 0
-  divisor-at S u c w d e = rw e (d.divisor u w.stands)
-
-  pub divides-fits : {S : ℕ} → Divides parts t S → S < 65536
-  divides-fits d = omega (arith, d.below, d.few, pow_mono {i = t - 1} {j = 16} (omega (arith, d.few)))
-
   -- the product fits, and the cut: c is the cell of t
   module _ (S e c : ℕ) (ec : c ≡ cell_of t t) where
-    pub product-fits : e ≤ max_estimate → get_or parts (cell_of t t) 0 ≤ max_rows → e * get_or parts c 0 ≤ max_estimate * max_rows
-    product-fits h l = rw ec (mul-le-mul h l)
-
-    module _ {r : ℕ} (h : r ≡ by_parts parts S t (t - 1) (e * get_or parts c 0)) where
-      pub cut-is : max_estimate < r → max_estimate ≡ min max_estimate (by_parts parts S t (t - 1) (e * get_or parts (cell_of t t) 0))
-      cut-is l = let i : r ≡ by_parts parts S t (t - 1) (e * get_or parts (cell_of t t) 0) = rw ec at h in omega arith
-
-      pub uncut-is : r ≤ max_estimate → r ≡ min max_estimate (by_parts parts S t (t - 1) (e * get_or parts (cell_of t t) 0))
-      uncut-is l = let i : r ≡ by_parts parts S t (t - 1) (e * get_or parts (cell_of t t) 0) = rw ec at h in omega arith
+    pub cut-is : {r v : ℕ} → r ≡ by_parts parts S t (t - 1) (e * get_or parts c 0) → v ≡ min r max_estimate → v ≡ min max_estimate (by_parts parts S t (t - 1) (e * get_or parts (cell_of t t) 0))
+    cut-is {r} h w = let i : r ≡ by_parts parts S t (t - 1) (e * get_or parts (cell_of t t) 0) = rw ec at h in omega arith
 
 -- ---- one table more
 -- the tables up to k decide
@@ -267,23 +225,23 @@ running-step g s (suc k) l =
     let y : suc k - 1 ≡ k = omega arith in
     rw (x, y)
 
-module _ {g : Graph} {near parts : List ℕ} {n t chosen around e : ℕ} {joined : Bool} (d : Node g near n t chosen around joined) (p : Valued g parts t chosen e) (l : t ≤ n) where
+module _ {g : Graph} {near parts : List ℕ} {n t e : ℕ} {chosen : Chosen} (d : Node g near n t chosen) (p : Valued g parts t chosen.set e) (l : t ≤ n) where
   abbrev linked : ℕ
-  linked = bit_and chosen (at near t)
+  linked = bit_and chosen.set (at near t)
 
   table : IsTable g t
   table = record { from_one = d.some; to-count = omega (arith, d.count) }
 
   cell-of : (u : ℕ) → holds linked u ≡ 1 → (i : ℕ) × (i < edge_count g) × Joins g i t u × (get_or parts (cell_of t u) 0 ≡ get_or g.divisors i 0)
   cell-of u h =
-      let o = d.near-sets.linked t u table (both_of chosen (at near t) u h).1 in
+      let o = d.near-sets.linked t u table (both_of chosen.set (at near t) u h).1 in
       (o.edge, o.known, o.joins, p.all.divisors t u o.edge o.known o.joins)
 
   pub linked-divides : Divides parts t linked
   linked-divides = record {
     some = d.some;
     few = omega (arith, d.few);
-    below = lt-of-holds (t - 1) linked (λ u h. (holds-lt (t - 1) chosen u d.below (both_of chosen (at near t) u h).0).1);
+    below = lt-of-holds (t - 1) linked (λ u h. (holds-lt (t - 1) chosen.set u d.below (both_of chosen.set (at near t) u h).0).1);
     divisor = λ u h. let o = cell-of u h in omega (arith, o.3, (p.good.edges o.0 o.1).divisor-some);
   }
 
@@ -291,56 +249,56 @@ module _ {g : Graph} {near parts : List ℕ} {n t chosen around e : ℕ} {joined
   own = p.all.own.rows_of t d.some table.to-count
 
   pub value-fits : (e ≤ max_estimate) × (get_or parts (cell_of t t) 0 ≤ max_rows)
-  value-fits = (omega (arith, p.value, running-le g chosen (t - 1)), omega (arith, own, p.good.rows (t - 1) (omega (arith, d.some, table.to-count))))
+  value-fits = (omega (arith, p.value, running-le g chosen.set (t - 1)), omega (arith, own, p.good.rows (t - 1) (omega (arith, d.some, table.to-count))))
 
   -- by parts as by edges
-  lower-parts : (S k r : ℕ) → k < t → ((u : ℕ) → u ≤ k → holds S u ≡ holds chosen u) → by_lower g S t k r ≡ by_parts parts linked t k r
+  lower-parts : (S k r : ℕ) → k < t → ((u : ℕ) → u ≤ k → holds S u ≡ holds chosen.set u) → by_lower g S t k r ≡ by_parts parts linked t k r
   unfolding by_lower by_parts
   lower-parts S zero r b h = refl
-  lower-parts S (suc k) r b h = go (ℕ_discrete (holds chosen (suc k)) 1) (ℕ_discrete (holds (at near t) (suc k)) 1) (lower-parts S k r (omega arith) (λ u i. h u (omega arith)))
+  lower-parts S (suc k) r b h = go (ℕ_discrete (holds chosen.set (suc k)) 1) (ℕ_discrete (holds (at near t) (suc k)) 1) (lower-parts S k r (omega arith) (λ u i. h u (omega arith)))
     where
-      go : Dec (holds chosen (suc k) ≡ 1) → Dec (holds (at near t) (suc k) ≡ 1) → by_lower g S t k r ≡ by_parts parts linked t k r
+      go : Dec (holds chosen.set (suc k) ≡ 1) → Dec (holds (at near t) (suc k) ≡ 1) → by_lower g S t k r ≡ by_parts parts linked t k r
           → cond (eqb (holds S (suc k)) 1) (by_edges g (suc k) t (edge_count g) (by_lower g S t k r)) (by_lower g S t k r) ≡ cond (eqb (holds linked (suc k)) 1) (divided (get_or parts (cell_of t (suc k)) 0) (by_parts parts linked t k r)) (by_parts parts linked t k r)
       go (yes a) (yes c) ih =
-          let in_both : holds linked (suc k) ≡ 1 = both-in chosen (at near t) (suc k) a c in
+          let in_both : holds linked (suc k) ≡ 1 = both-in chosen.set (at near t) (suc k) a c in
           let o = cell-of (suc k) in_both in
           rw (eq-eqb (holds S (suc k)) 1 (h (suc k) (omega arith) ∙ a), eq-eqb (holds linked (suc k)) 1 in_both, ih, o.3) (edges-one g (suc k) t (by_parts parts linked t k r) p.good (edge_count g) o.0 (omega arith) o.1 o.2)
       go (yes a) (no c) ih =
-          rw (eq-eqb (holds S (suc k)) 1 (h (suc k) (omega arith) ∙ a), ne_eqb (holds linked (suc k)) 1 (λ i. c (both_of chosen (at near t) (suc k) i).1), ih)
+          rw (eq-eqb (holds S (suc k)) 1 (h (suc k) (omega arith) ∙ a), ne_eqb (holds linked (suc k)) 1 (λ i. c (both_of chosen.set (at near t) (suc k) i).1), ih)
           (edges_none g (suc k) t (by_parts parts linked t k r) (edge_count g) (λ i m j. c (d.near-sets.all t (suc k) (record { edge = i; known = m; joins = j }))))
-      go (no a) c ih = rw (ne_eqb (holds S (suc k)) 1 (λ i. a (sym (h (suc k) (omega arith)) ∙ i)), ne_eqb (holds linked (suc k)) 1 (λ i. a (both_of chosen (at near t) (suc k) i).0)) ih
+      go (no a) c ih = rw (ne_eqb (holds S (suc k)) 1 (λ i. a (sym (h (suc k) (omega arith)) ∙ i)), ne_eqb (holds linked (suc k)) 1 (λ i. a (both_of chosen.set (at near t) (suc k) i).0)) ih
 
   module _ (x v : ℕ) (s : x ≡ single t) (w : v ≡ min max_estimate (by_parts parts linked t (t - 1) (e * get_or parts (cell_of t t) 0))) where
-    apart : (u : ℕ) → holds chosen u ≡ 1 → holds x u ≡ 1 → ⊥
-    apart u a b = omega (arith, holds-lt (t - 1) chosen u d.below a, holds-single-only t u d.some (rw s at b), d.some)
+    apart : (u : ℕ) → holds chosen.set u ≡ 1 → holds x u ≡ 1 → ⊥
+    apart u a b = omega (arith, holds-lt (t - 1) chosen.set u d.below a, holds-single-only t u d.some (rw s at b), d.some)
 
-    lower : (u : ℕ) → u ≤ t - 1 → holds (chosen + x) u ≡ holds chosen u
-    lower u i = omega (arith, holds-sum chosen x u (apart-tables chosen x apart), not-held x u (λ h. omega (arith, holds-single-only t u d.some (rw s at h), d.some)))
+    lower : (u : ℕ) → u ≤ t - 1 → holds (chosen.set + x) u ≡ holds chosen.set u
+    lower u i = omega (arith, holds-sum chosen.set x u (apart-tables chosen.set x apart), not-held x u (λ h. omega (arith, holds-single-only t u d.some (rw s at h), d.some)))
 
-    taken : holds (chosen + x) t ≡ 1
-    taken = omega (arith, holds-sum chosen x t (apart-tables chosen x apart), holds-le (chosen + x) t, rw (← s) at (holds-single t d.some))
+    taken : holds (chosen.set + x) t ≡ 1
+    taken = omega (arith, holds-sum chosen.set x t (apart-tables chosen.set x apart), holds-le (chosen.set + x) t, rw (← s) at (holds-single t d.some))
 
-    with_value : v ≡ running g (chosen + x) (t + 1 - 1)
+    with_value : v ≡ running g (chosen.set + x) (t + 1 - 1)
     unfolding with_table
     with_value =
         w
-        ∙ ap (min max_estimate) (rw (own, p.value) (sym (lower-parts (chosen + x) (t - 1) (running g chosen (t - 1) * max 1 (at g.rows t)) (omega (arith, d.some)) lower)))
-        ∙ ap (with_table g (chosen + x) t) (sym (running-same g (chosen + x) chosen (t - 1) lower))
-        ∙ sym (running-step g (chosen + x) t d.some ∙ rw (eq-eqb (holds (chosen + x) t) 1 taken) refl)
+        ∙ ap (min max_estimate) (rw (own, p.value) (sym (lower-parts (chosen.set + x) (t - 1) (running g chosen.set (t - 1) * max 1 (at g.rows t)) (omega (arith, d.some)) lower)))
+        ∙ ap (with_table g (chosen.set + x) t) (sym (running-same g (chosen.set + x) chosen.set (t - 1) lower))
+        ∙ sym (running-step g (chosen.set + x) t d.some ∙ rw (eq-eqb (holds (chosen.set + x) t) 1 taken) refl)
 
-    pub valued-with : Valued g parts (t + 1) (chosen + x) v
+    pub valued-with : Valued g parts (t + 1) (chosen.set + x) v
     valued-with = record { good = p.good; all = p.all; value = with_value }
 
     -- the estimate of the chosen tables with table t
-    pub with-estimate : v ≡ estimate g (chosen + x)
+    pub with-estimate : v ≡ estimate g (chosen.set + x)
     unfolding estimate
-    with-estimate = with_value ∙ sym (running-on g (chosen + x) (t + 1 - 1) (table_count g) (rw s (below-with t chosen d.some d.below)) (omega (arith, table.to-count)))
+    with-estimate = with_value ∙ sym (running-on g (chosen.set + x) (t + 1 - 1) (table_count g) (rw s (below-with t chosen.set d.some d.below)) (omega (arith, table.to-count)))
 
-  pub valued-without : Valued g parts (t + 1) chosen e
+  pub valued-without : Valued g parts (t + 1) chosen.set e
   valued-without = record {
     good = p.good;
     all = p.all;
-    value = p.value ∙ sym (running-step g chosen t d.some ∙ rw (ne_eqb (holds chosen t) 1 (λ h. omega (arith, holds-lt (t - 1) chosen t d.below h, d.some))) refl);
+    value = p.value ∙ sym (running-step g chosen.set t d.some ∙ rw (ne_eqb (holds chosen.set t) 1 (λ h. omega (arith, holds-lt (t - 1) chosen.set t d.below h, d.some))) refl);
   }
 
 pub valued-root : (g : Graph) (parts : List ℕ) → GoodGraph g → Parts g (edge_count g) parts → Valued g parts 1 0 1

@@ -3,24 +3,14 @@
 
 ghost use Rattle.std.specs.Prelude.{◌≡◌, ◌+◌, ◌-◌, ◌*◌, ◌≤◌, min, max, length, get_or};
 ghost use Rattle.rules.specs.Limits.{max_tables, max_rows, max_estimate};
-ghost use Rattle.rules.specs.Query.{graph_of, edge_count};
-ghost use Rattle.rules.specs.Checked.{GoodGraph};
+ghost use Rattle.rules.specs.Query.{edge_count};
 ghost use Rattle.parts.specs.Parts.{cell_of, Own, Parts, Divides, by_parts};
 
+use query::graph::Graph;
 use sets::{lowest_table, single};
 
 // "Then cut to 1,000,000,000,000 if larger."
 const MAX_ESTIMATE: u64 = 1_000_000_000_000;
-
-// At least 1: for rows, where 0 counts as 1, and for quotients.
-fn raised(n: u64) -> u64
-    ensures { result ≡ max 1 n }
-{
-    if n == 0 {
-        return 1;
-    }
-    n
-}
 
 // The cell of the tables `t` and `u`.
 fn cell(t: u64, u: u64) -> usize
@@ -37,21 +27,20 @@ fn own_parts(rows: &[u64]) -> [u64; 256]
 {
     let mut parts = [0u64; 256];
     for k in 0..rows.len() {
-        parts[k * 16 + k] = raised(rows[k]);
+        parts[k * 16 + k] = rows[k].max(1);
     }
     parts
 }
 
 // And the divisor of each edge, either way round.
-pub fn table_parts(rows: &[u64], left: &[u64], right: &[u64], divisors: &[u64]) -> [u64; 256]
-    requires { GoodGraph (graph_of rows.now left.now right.now divisors.now) }
-    ensures { Parts (graph_of rows.now left.now right.now divisors.now) (edge_count (graph_of rows.now left.now right.now divisors.now)) result }
+pub fn table_parts(graph: &Graph) -> [u64; 256]
+    ensures { Parts graph.now (edge_count graph.now) result }
 {
-    let mut parts = own_parts(rows);
-    for i in 0..left.len() {
-        let a = left[i];
-        let b = right[i];
-        let d = divisors[i];
+    let mut parts = own_parts(graph.rows);
+    for i in 0..graph.left.len() {
+        let a = graph.left[i];
+        let b = graph.right[i];
+        let d = graph.divisors[i];
         parts[cell(a, b)] = d;
         parts[cell(b, a)] = d;
     }
@@ -65,10 +54,11 @@ fn by_linked(parts: &[u64; 256], t: u64, linked: u64, e: u64) -> u64
 {
     let mut r = e;
     let mut left = linked;
+    // No `for`: the tables are bits of a number, and are taken off it one after another.
     while left != 0 {
         let u = lowest_table(left);
-        r = raised(r / parts[cell(t, u)]);
-        left = left - single(u);
+        r = (r / parts[cell(t, u)]).max(1);
+        left -= single(u);
     }
     r
 }
@@ -81,8 +71,5 @@ pub fn with_part(parts: &[u64; 256], t: u64, linked: u64, e: u64) -> u64
 {
     let product = e * parts[cell(t, t)];
     let r = by_linked(parts, t, linked, product);
-    if r > MAX_ESTIMATE {
-        return MAX_ESTIMATE;
-    }
-    r
+    r.min(MAX_ESTIMATE)
 }

@@ -9,7 +9,7 @@ use Rattle.rules.specs.Sets.{has, holds, Splits, single, Lowest}
 use Rattle.rules.specs.Query.{Graph, IsTable, Linked, table_count, edge_count}
 use Rattle.rules.specs.Connected.{Connected}
 use Rattle.rules.specs.Checked.{GoodGraph, EdgeGood}
-use Rattle.rules.specs.laws.Bools.{true-or-false, not-both, and-true-l, and_true_r, true-yes, any}
+use Rattle.rules.specs.laws.Bools.{true-or-false, not-both, and-true-l, and_true_r, any}
 use Rattle.rules.specs.laws.Sets.{splits-inner, splits-outer, holds-minus, holds-single, holds-lt, lt-of-holds, holds-pos}
 use Rattle.rules.specs.laws.Connected.{connected-join, connected-single, flood-done, Within, within-left, within_same, within_on}
 use Rattle.rules.specs.laws.Decide.{crosses_in, between_in, between-of, connected?}
@@ -51,9 +51,6 @@ module _ (s f a b : ℕ) where
 
 -- ---- one edge
 module _ (g : Graph) (s f : ℕ) (p : Part g s f) where
-  pub part-le : f ≤ s
-  part-le = omega (arith, p.splits.whole)
-
   -- the far table of an edge that leads on is one of the rest
   out : (u v : ℕ) → (has f u && has (s - f) v) ≡ true → Splits (s - f) (single v) (s - f - single v)
   out u v h = holds-minus (s - f) v (eqb-true (holds (s - f) v) 1 (and_true_r (has f u) (has (s - f) v) h))
@@ -124,20 +121,13 @@ part-start g s t l h =
     record { connected = connected-single g t (record { from_one = r.0; to-count = r.1 }); splits = holds-minus s t h.stands }
 
 -- ---- the answer
-no-yes : {A : Type 0} (d : Dec A) → (A → ⊥) → is_yes d ≡ false
+pub no-yes : {A : Type 0} (d : Dec A) → (A → ⊥) → is_yes d ≡ false
 no-yes (yes a) n = absurd (n a)
 no-yes (no m) n = refl
 
 module _ (g : Graph) (s : ℕ) where
-  pub empty-no : s ≡ 0 → is_yes (connected? g s) ≡ false
-  empty-no e = no-yes (connected? g s) (λ c. omega (arith, c.some))
-
   pub unknown-no : (s / 2 ^ table_count g ≡ 0 → ⊥) → is_yes (connected? g s) ≡ false
   unknown-no n = no-yes (connected? g s) (λ c. n (div-eq_of_lt (lt-of-holds (table_count g) s (λ t h. (c.known t h).to-count))))
-
-  -- the part is all of s
-  pub whole-yes : (f : ℕ) → Part g s f → f ≡ s → is_yes (connected? g s) ≡ true
-  whole-yes f p e = true-yes (connected? g s) (rw e at p.connected)
 
   -- the part is not all of s, and no edge leads on
   pub stuck-no : (f r : ℕ) → (f ≡ s → ⊥) → Part g s f → Grown g s f (between_in g.left g.right f (s - f)) r → r ≡ f → is_yes (connected? g s) ≡ false

@@ -1,5 +1,5 @@
 -- Laws of the search for an edge between two sets.
-use Rattle.std.specs.Prelude.{◌≡◌, Bool, true, false, ◌&&◌, ◌||◌, List, ℕ, zero, suc, ◌+◌, ◌/◌, ◌^◌, ◌<◌, ◌≤◌, max, length, get_or}
+use Rattle.std.specs.Prelude.{◌≡◌, Bool, true, false, ◌&&◌, ◌||◌, List, ℕ, zero, suc, ◌+◌, ◌/◌, ◌^◌, ◌≤◌, max, length, get_or}
 use Rattle.std.proofs.Math.Path.{refl}
 use Rattle.std.proofs.Common.{sym, ◌∙◌, add-one, arith, ne_eqb}
 use Rattle.std.proofs.Math.Bool.{and-false}
@@ -9,21 +9,12 @@ use Rattle.std.proofs.lemmas.Nat.{or_shr}
 use Rattle.rules.specs.Lists.{is_yes}
 use Rattle.rules.specs.Sets.{has, holds}
 use Rattle.rules.specs.Query.{Graph}
-use Rattle.rules.specs.laws.Bools.{any, any_of, decide-is}
+use Rattle.rules.specs.laws.Bools.{any, decide-is}
 use Rattle.rules.specs.laws.Decide.{crosses_in, between_in, between?, between-true, between-of}
 
--- ---- tests, as early returns make them
-pub and_yes : (a b : Bool) {r x : Bool} → r ≡ a → r ≡ true → x ≡ b → x ≡ (a && b)
-and_yes a b e t f = rw (sym e ∙ t) f
-
-pub and_no : (a b : Bool) {r : Bool} → r ≡ a → r ≡ false → false ≡ (a && b)
-and_no a b e t = rw (sym e ∙ t)
-
-pub or_yes : (a b : Bool) {r : Bool} → r ≡ a → r ≡ true → true ≡ (a || b)
-or_yes a b e t = rw (sym e ∙ t)
-
-pub or_no : (a b : Bool) {r x : Bool} → r ≡ a → r ≡ false → x ≡ b → x ≡ (a || b)
-or_no a b e t f = rw (sym e ∙ t) f
+-- ---- an or whose left test says yes
+pub or_yes : (a b : Bool) {r : Bool} → r ≡ a → r ≡ true → r ≡ (a || b)
+or_yes a b e t = rw (sym e ∙ t) t
 
 -- ---- a search of the numbers from 0 on
 module _ (f : ℕ → Bool) where
@@ -52,7 +43,7 @@ unfolding holds
 holds-either x y zero = refl
 holds-either x y (suc i) = rw (or_shr x y i) (omega (arith, or_step (x / 2 ^ i) (y / 2 ^ i)))
 
-holds-le : (S t : ℕ) → holds S t ≤ 1
+pub holds-le : (S t : ℕ) → holds S t ≤ 1
 unfolding holds
 holds-le S zero = omega arith
 holds-le S (suc i) = omega arith
@@ -68,11 +59,6 @@ neither x y t e =
 pub crosses-not : (left right : List ℕ) (x y i : ℕ) {r : Bool} → r ≡ has (bit_or x y) (get_or left i 0) → r ≡ false → crosses_in left right x y i ≡ false
 unfolding crosses_in
 crosses-not left right x y i e f = let n = neither x y (get_or left i 0) (sym e ∙ f) in rw (n.0, n.1) (and-false (has x (get_or right i 0)))
-
--- an edge that crosses is found
-pub between-found : (g : Graph) (x y i : ℕ) → i < length g.left → crosses_in g.left g.right x y i ≡ true → is_yes (between? g x y) ≡ true
-unfolding between_in
-between-found g x y i l e = between_is g x y ∙ any_of (crosses_in g.left g.right x y) (length g.left) i l e
 
 -- none has been found among all
 pub between_none : (g : Graph) (x y i : ℕ) → i ≡ length g.left → any (crosses_in g.left g.right x y) i ≡ false → is_yes (between? g x y) ≡ false

@@ -2,12 +2,11 @@
 ghost use Rattle.std.specs.Prelude.{◌≡◌, ◌-◌, ◌≤◌};
 ghost use Rattle.rules.specs.Limits.{max_tables};
 ghost use Rattle.rules.specs.Lists.{is_yes};
-ghost use Rattle.rules.specs.Query.{graph_of};
-ghost use Rattle.rules.specs.Checked.{GoodGraph};
 ghost use Rattle.rules.specs.laws.Decide.{between_in, connected?};
 ghost use Rattle.query.specs.ConnectedLaws.{grow, Part, Grown};
 
 use super::edges::both_stand;
+use super::graph::Graph;
 use sets::{lowest_table, single};
 
 // A part of `s`, with the far table of an edge of the tables `a` and `b` where the edge leads from the part to the rest.
@@ -26,34 +25,31 @@ fn grow(s: u64, part: u64, a: u64, b: u64) -> u64
 }
 
 // A connected part of `s`, grown along each edge once; it stays as it was only where no edge leads on.
-fn reach(rows: &[u64], left: &[u64], right: &[u64], divisors: &[u64], s: u64, part: u64) -> u64
-    requires good_graph { GoodGraph (graph_of rows.now left.now right.now divisors.now) }
-    requires part { Part (graph_of rows.now left.now right.now divisors.now) s part }
-    ensures { Grown (graph_of rows.now left.now right.now divisors.now) s part (between_in left.now right.now part (s - part)) result }
+fn reach(graph: &Graph, s: u64, part: u64) -> u64
+    requires { Part graph.now s part }
+    ensures { Grown graph.now s part (between_in graph.now.left graph.now.right part (s - part)) result }
 {
     let mut grown = part;
-    let mut i = 0;
-    while i < left.len() {
-        grown = grow(s, grown, left[i], right[i]);
-        i += 1;
+    for i in 0..graph.left.len() {
+        grown = grow(s, grown, graph.left[i], graph.right[i]);
     }
     grown
 }
 
 // Whether `s` is connected; no set with an unknown table is, nor the empty one.
-pub fn connected(rows: &[u64], left: &[u64], right: &[u64], divisors: &[u64], s: u64) -> bool
-    requires { GoodGraph (graph_of rows.now left.now right.now divisors.now) }
-    ensures { result ≡ is_yes (connected? (graph_of rows.now left.now right.now divisors.now) s) }
+pub fn connected(graph: &Graph, s: u64) -> bool
+    ensures { result ≡ is_yes (connected? graph.now s) }
 {
     if s == 0 {
         return false;
     }
-    if s >> rows.len() != 0 {
+    if s >> graph.rows.len() != 0 {
         return false;
     }
     let mut part = single(lowest_table(s));
+    // No `for`: how often the part grows is not known.
     while part != s {
-        let next = reach(rows, left, right, divisors, s, part);
+        let next = reach(graph, s, part);
         if next == part {
             return false;
         }

@@ -3,31 +3,24 @@ ghost use Rattle.std.specs.Prelude.{◌≡◌, ◌&&◌, ◌||◌, ◌≤◌};
 ghost use Rattle.rules.specs.Limits.{max_tables};
 ghost use Rattle.rules.specs.Lists.{is_yes};
 ghost use Rattle.rules.specs.Sets.{has};
-ghost use Rattle.rules.specs.Query.{graph_of};
-ghost use Rattle.rules.specs.Checked.{GoodGraph};
 ghost use Rattle.rules.specs.laws.Decide.{between?};
 ghost use Rattle.query.specs.Lists.{is_pair, same_pair};
 
+use super::graph::Graph;
 use sets::has_table;
 
 // Whether `x` and `y` are `a` and `b`, in this order.
 fn is_pair(x: u64, y: u64, a: u64, b: u64) -> bool
     ensures { result ≡ is_pair x y a b }
 {
-    if x == a {
-        return y == b;
-    }
-    false
+    x == a && y == b
 }
 
 // Whether `x` and `y` are `a` and `b`, whichever way round.
 pub fn same_pair(x: u64, y: u64, a: u64, b: u64) -> bool
     ensures { result ≡ same_pair x y a b }
 {
-    if is_pair(x, y, a, b) {
-        return true;
-    }
-    is_pair(x, y, b, a)
+    is_pair(x, y, a, b) || is_pair(x, y, b, a)
 }
 
 // Whether table `a` stands in `x` and table `b` in `y`.
@@ -35,10 +28,7 @@ pub fn both_stand(x: u64, a: u64, y: u64, b: u64) -> bool
     requires { (1 ≤ a) × (a ≤ max_tables) × (1 ≤ b) × (b ≤ max_tables) }
     ensures { result ≡ (has x a && has y b) }
 {
-    if has_table(x, a) {
-        return has_table(y, b);
-    }
-    false
+    has_table(x, a) && has_table(y, b)
 }
 
 // Whether an edge of the tables `a` and `b` runs between `x` and `y`, whichever way round it is written.
@@ -46,34 +36,19 @@ fn crosses(x: u64, y: u64, a: u64, b: u64) -> bool
     requires { (1 ≤ a) × (a ≤ max_tables) × (1 ≤ b) × (b ≤ max_tables) }
     ensures { result ≡ ((has x a && has y b) || (has x b && has y a)) }
 {
-    if both_stand(x, a, y, b) {
-        return true;
-    }
-    both_stand(x, b, y, a)
+    both_stand(x, a, y, b) || both_stand(x, b, y, a)
 }
 
 // Whether an edge runs between `x` and `y`: from a table of the one to a table of the other. Most edges have their left table in neither,
 // and one test is enough for them.
-pub fn edge_between(
-    rows: &[u64],
-    left: &[u64],
-    right: &[u64],
-    divisors: &[u64],
-    x: u64,
-    y: u64,
-) -> bool
-    requires { GoodGraph (graph_of rows.now left.now right.now divisors.now) }
-    ensures { result ≡ is_yes (between? (graph_of rows.now left.now right.now divisors.now) x y) }
+pub fn edge_between(graph: &Graph, x: u64, y: u64) -> bool
+    ensures { result ≡ is_yes (between? graph.now x y) }
 {
     let either = x | y;
-    let mut i = 0;
-    while i < left.len() {
-        if has_table(either, left[i]) {
-            if crosses(x, y, left[i], right[i]) {
-                return true;
-            }
+    for i in 0..graph.left.len() {
+        if has_table(either, graph.left[i]) && crosses(x, y, graph.left[i], graph.right[i]) {
+            return true;
         }
-        i += 1;
     }
     false
 }

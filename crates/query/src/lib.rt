@@ -1,6 +1,8 @@
 // The questions that a checked query answers.
-// Each question takes the graph as its four lent lists; what its answer means stands in crate rules.
+// A question about a graph takes it as one value, whose four lent lists are good; what an answer means stands in crate rules.
 #![tactic(auto)]
 
 pub mod connected;
 pub mod edges;
+pub mod graph;
+pub mod lists;

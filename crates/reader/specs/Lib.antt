@@ -1,5 +1,5 @@
+pub mod Lists
 pub mod Records
-pub mod Columns
 pub mod StoreLaws
 pub mod ReadLaws
 pub mod LoopLaws

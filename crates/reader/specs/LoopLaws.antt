@@ -1,23 +1,28 @@
 -- The lines in a row: what has been read, with what the rest of the text adds to it, is the reading of the text.
-use Rattle.std.specs.Prelude.{◌≡◌, refl, Bool, cond, List, [], ◌∷◌, ℕ, ◌≤◌, ◌<◌, ◌+◌, ◌-◌, eqb, length, take, drop, get_or}
+use Rattle.std.specs.Prelude.{◌≡◌, refl, Bool, List, [], ◌∷◌, ℕ, ◌≤◌, ◌<◌, ◌+◌, ◌-◌, length, take, drop, get_or}
 use Rattle.std.proofs.Math.Path.{sym, ap}
-use Rattle.std.proofs.Common.{◌∙◌, le_trans, add-one, arith, length-take-le, eq-eqb, ne_eqb}
+use Rattle.std.proofs.Common.{◌∙◌, add-one, arith, length-take-le, eq-eqb, ne_eqb}
 use Rattle.std.proofs.Math.Bool.{true, false}
 use Rattle.rules.specs.declared.forms.Kind.{Kind}
 use Rattle.rules.specs.declared.forms.Kind.TheVariants.{Table, Method, Edge, Crew}
-use Rattle.rules.specs.declared.forms.Letter.{Letter}
 use Rattle.rules.specs.Limits.{max_bytes}
 use Rattle.rules.specs.Lines.{newline, lines}
-use Rattle.rules.specs.Reading.{Read, Reading, stage, values, line_form, line_number, with_record, with_line_as, with_line, stopped, ended, read_from, unfit, reading}
+use Rattle.rules.specs.Reading.{Read, stage, values, line_form, line_number, with_record, with_line_as, with_line, stopped, ended, read_from, unfit, reading}
 use Rattle.fields.specs.declared.kinds.Progress.{Progress}
-use Rattle.reader.specs.declared.reading.Held.{Held}
+use Rattle.fields.specs.declared.kinds.Record.{Record}
+use Rattle.reader.specs.Lists.{Lists}
+use Rattle.reader.specs.declared.reading.Stopped.{Stopped}
+use Rattle.rules.specs.declared.refusal.Refusal.{Refusal}
+use Rattle.rules.specs.declared.refusal.Reason.{Reason}
+use Rattle.rules.specs.declared.refusal.Reason.TheVariants.{ListLengths, TableCount, TableOver, MethodCount, MethodOver, EdgeOutside, EdgeItself, EdgeDivisor, EdgeRepeated, Unconnected, CrewRange, TurnWorker, MemoRows, SkipCells, LineFields, LineNumber, LineOrder, TextEnd, LineExcess}
+use Rattle.rules.specs.Verdict.{number_of, none, told}
 use Rattle.fields.specs.Spans.{span}
-use Rattle.fields.specs.Recorded.{Recorded}
-use Rattle.reader.specs.Records.{Within, no_line, held_as}
-use Rattle.reader.specs.Columns.{Columns, read_in, RoomIn, SpareIn}
+use Rattle.fields.specs.Recorded.{number_as, Recorded, Judged}
+use Rattle.reader.specs.Records.{Within, Spare, read_of, reading_of, no_line}
 use Rattle.reader.specs.ReadLaws.{Ended, fit_is, line-ends, lines_none, lines_next, after-length, after-ended}
-use Rattle.fields.specs.JudgeLaws.{number_as}
-use Rattle.reader.specs.StoreLaws.{Stored, spared-same, spared-on}
+use Rattle.reader.specs.StoreLaws.{Held, Stored, spare-none, spared-on}
+use Rattle.std.specs.Prelude.{Option, Result, Ok, Err, MatchResult, IsErrAnd}
+use Rattle.rules.specs.declared.forms.Form.{Form}
 
 -- ---- one line
 step-stop : (k : ℕ) (s : Read) (l : List ℕ) (ls : List (List ℕ)) (n : ℕ) → line_number s l ≡ n → (n ≡ 0 → ⊥) → read_from k s (l ∷ ls) ≡ stopped n k s
@@ -40,37 +45,11 @@ same-record Method a b s h = rw (h 0, h 1, h 2, h 3) refl
 same-record Edge a b s h = rw (h 0, h 1, h 2) refl
 same-record Crew a b s h = rw (h 0, h 1) refl
 
-with-line : {line cells : List ℕ} {kind : Kind} (s : Read) → Recorded line kind cells → with_line s line ≡ with_record kind cells s
-with-line {line} {cells} {kind} s r = ap (λ (x : Letter). with_line_as x line s) r.form ∙ sym (same-record kind cells (values line) s r.cells_are)
+with-line : {line : List ℕ} {r : Record} (s : Read) → Recorded (line_form line) line r → with_line s line ≡ with_record r.kind r.cells s
+with-line {line} {r} s d = ap (λ (x : Option Form). with_line_as x line s) d.form ∙ sym (same-record r.kind r.cells (values line) s d.cells_are)
 
 -- ---- nine columns
-room-kept : (p : Progress) (a b : Columns) → RoomIn a → SpareIn p a b → RoomIn b
-room-kept p a b r s = record {
-  rows_fit = omega (arith, r.rows_fit, s.rows-spare.length-kept);
-  scans-fit = omega (arith, r.scans-fit, s.scans-spare.length-kept);
-  left-fit = omega (arith, r.left-fit, s.left-spare.length-kept);
-  right-fit = omega (arith, r.right-fit, s.right-spare.length-kept);
-  divisors-fit = omega (arith, r.divisors-fit, s.divisors-spare.length-kept);
-  fixed-fit = omega (arith, r.fixed-fit, s.fixed-spare.length-kept);
-  outer-fit = omega (arith, r.outer-fit, s.outer-spare.length-kept);
-  inner-fit = omega (arith, r.inner-fit, s.inner-spare.length-kept);
-  result-fit = omega (arith, r.result-fit, s.result-spare.length-kept);
-}
-
-spare-none : (p : Progress) (a : Columns) → SpareIn p a a
-spare-none p a = record {
-  rows-spare = spared-same p.tables a.rows;
-  scans-spare = spared-same p.tables a.scans;
-  left-spare = spared-same p.edges a.left;
-  right-spare = spared-same p.edges a.right;
-  divisors-spare = spared-same p.edges a.divisors;
-  fixed-spare = spared-same p.methods a.fixed;
-  outer-spare = spared-same p.methods a.per_outer;
-  inner-spare = spared-same p.methods a.per_inner;
-  result-spare = spared-same p.methods a.per_result;
-}
-
-spare-on : (p n : Progress) (a b c : Columns) → p.tables ≤ n.tables → p.methods ≤ n.methods → p.edges ≤ n.edges → SpareIn p a b → SpareIn n b c → SpareIn n a c
+spare-on : (p n : Progress) (a b c : Lists) → p.tables ≤ n.tables → p.methods ≤ n.methods → p.edges ≤ n.edges → Spare p a b → Spare n b c → Spare n a c
 spare-on p n a b c t m e s u = record {
   rows-spare = spared-on p.tables n.tables a.rows b.rows c.rows t s.rows-spare u.rows-spare;
   scans-spare = spared-on p.tables n.tables a.scans b.scans c.scans t s.scans-spare u.scans-spare;
@@ -84,114 +63,113 @@ spare-on p n a b c t m e s u = record {
 }
 
 -- the refusal of the next line by the records so far
-number-here : (p : Progress) (a : Columns) → RoomIn a → Within p → (line : List ℕ) → line_number (read_in p a) line ≡ number_as (line_form line) p line
-number-here p a r w line =
-    let t : length (take p.tables a.rows) ≡ p.tables = length-take-le p.tables a.rows (le_trans w.tables r.rows_fit) in
-    let m : length (take p.methods a.fixed) ≡ p.methods = length-take-le p.methods a.fixed (le_trans w.methods r.fixed-fit) in
-    let e : length (take p.edges a.left) ≡ p.edges = length-take-le p.edges a.left (le_trans w.edges r.left-fit) in
+number-here : (p : Progress) (a : Lists) → Held p a → (line : List ℕ) → line_number (read_of p a) line ≡ number_as (line_form line) p line
+number-here p a h line =
+    let t : length (take p.tables a.rows) ≡ p.tables = length-take-le p.tables a.rows h.tables in
+    let m : length (take p.methods a.fixed) ≡ p.methods = length-take-le p.methods a.fixed h.methods in
+    let e : length (take p.edges a.left) ≡ p.edges = length-take-le p.edges a.left h.edges in
     rw (t, m, e) refl
 
 -- ---- all lines
 -- between two lines: `rest` is still to be read
-pub record Reads (text rest : List ℕ) (place : ℕ) (p : Progress) (a b : Columns) : Type 0 where
-  pub spare : SpareIn p a b
+pub record Reads (text rest : List ℕ) (place : ℕ) (p : Progress) (a b : Lists) : Type 0 where
+  pub spare : Spare p a b
   pub within : Within p
-  pub room : RoomIn b
-  pub goes : read_from place (read_in p b) (lines rest) ≡ reading text
+  pub held : Held p b
+  pub goes : read_from place (read_of p b) (lines rest) ≡ reading text
   pub last : Ended rest
   pub count : place + length rest ≤ length text + 1
   pub short : length text ≤ max_bytes
 
--- what `read` promises
-abbrev reading_in : Held → Columns → Reading
-reading_in h b = record { verdict = h.verdict; read = read_in h.progress b }
-
-abbrev pub Ends : List ℕ → Held → (a b : Columns) → Type 0
-Ends text h a b = (reading_in h b ≡ reading text) × (SpareIn h.progress a b × Within h.progress)
+-- the numbers of reasons are 1 to 25
+pub number-within : (r : Reason) → (1 ≤ number_of r) × (number_of r ≤ 25)
+number-within ListLengths = (omega arith, omega arith)
+number-within TableCount = (omega arith, omega arith)
+number-within TableOver = (omega arith, omega arith)
+number-within MethodCount = (omega arith, omega arith)
+number-within MethodOver = (omega arith, omega arith)
+number-within EdgeOutside = (omega arith, omega arith)
+number-within EdgeItself = (omega arith, omega arith)
+number-within EdgeDivisor = (omega arith, omega arith)
+number-within EdgeRepeated = (omega arith, omega arith)
+number-within Unconnected = (omega arith, omega arith)
+number-within CrewRange = (omega arith, omega arith)
+number-within TurnWorker = (omega arith, omega arith)
+number-within MemoRows = (omega arith, omega arith)
+number-within SkipCells = (omega arith, omega arith)
+number-within LineFields = (omega arith, omega arith)
+number-within LineNumber = (omega arith, omega arith)
+number-within LineOrder = (omega arith, omega arith)
+number-within TextEnd = (omega arith, omega arith)
+number-within LineExcess = (omega arith, omega arith)
 
 nothing-within : (p : Progress) → p ≡ no_line → Within p
 nothing-within p e = rw e (record { tables = omega arith; methods = omega arith; edges = omega arith })
 
-module _ (text : List ℕ) (p : Progress) (z : p ≡ no_line) (u : Bool) (e : u ≡ unfit text) (a : Columns) where
-  pub read-unfit : (h : Held) → u ≡ true → h ≡ held_as 24 0 p → Ends text h a a
+module _ (text : List ℕ) (p : Progress) (z : p ≡ no_line) (u : Bool) (e : u ≡ unfit text) (a : Lists) where
+  pub read-unfit : (f : Refusal) → u ≡ true → f ≡ record { reason = TextEnd; place = 0 } → record { verdict = told f; read = read_of p a } ≡ reading text
   unfolding reading
-  read-unfit h t f =
-      let g : h ≡ held_as 24 0 no_line = f ∙ ap (held_as 24 0) z in
-      let y : unfit text ≡ true = sym e ∙ t in
-      rw (g, y) (refl, (spare-none no_line a, nothing-within no_line refl))
+  read-unfit f t d = let y : unfit text ≡ true = sym e ∙ t in rw (d, z, y) refl
 
-  pub reads-start : u ≡ false → RoomIn a → Reads text text 1 p a a
+  pub reads-start : u ≡ false → Reads text text 1 p a a
   unfolding reading
-  reads-start t r =
+  reads-start t =
       let y : unfit text ≡ false = sym e ∙ t in
       let f = fit_is text y in
       record {
         spare = spare-none p a;
         within = nothing-within p z;
-        room = r;
+        held = rw z (record { tables = omega arith; methods = omega arith; edges = omega arith });
         goes = rw (z, y) refl;
         last = f.ended;
         count = omega arith;
         short = f.short;
       }
 
--- what `ended` promises
-abbrev pub ended_as : ℕ → Progress → Held
-ended_as place p = cond (eqb p.latest (stage Crew)) (held_as 0 0 p) (held_as 23 place p)
-
-module _ (place : ℕ) (p : Progress) (h : Held) (at : ℕ) (s : at ≡ stage Crew) where
-  pub ended-crew : p.latest ≡ at → h ≡ held_as 0 0 p → h ≡ ended_as place p
-  ended-crew e f = rw (eq-eqb p.latest (stage Crew) (e ∙ s)) f
-
-  pub ended-other : (p.latest ≡ at → ⊥) → h ≡ held_as 23 place p → h ≡ ended_as place p
-  ended-other n f = rw (ne_eqb p.latest (stage Crew) (λ e. n (e ∙ sym s))) f
-
-module _ {text rest : List ℕ} {place : ℕ} {p : Progress} {a b : Columns} (r : Reads text rest place p a b) where
+module _ {text rest : List ℕ} {place : ℕ} {p : Progress} {a b : Lists} (r : Reads text rest place p a b) where
   -- after the last line
-  pub read-end : (h : Held) → length rest ≤ 0 → h ≡ ended_as place p → Ends text h a b
-  read-end h l e = go (eqb p.latest (stage Crew)) e (sym (step_end place (read_in p b)) ∙ ap (read_from place (read_in p b)) (sym (lines_none rest l)) ∙ r.goes)
-    where
-      go : (t : Bool) → h ≡ cond t (held_as 0 0 p) (held_as 23 place p)
-          → cond t (record { verdict = record { number = 0; place = 0 }; read = read_in p b }) (stopped 23 place (read_in p b)) ≡ reading text
-          → Ends text h a b
-      go true e g = rw e (g, (r.spare, r.within))
-      go false e g = rw e (g, (r.spare, r.within))
+  at-end : length rest ≤ 0 → ended place (read_of p b) ≡ reading text
+  at-end l = sym (step_end place (read_of p b)) ∙ ap (read_from place (read_of p b)) (sym (lines_none rest l)) ∙ r.goes
+
+  pub read-crew : length rest ≤ 0 → p.latest ≡ stage Crew → record { verdict = none; read = read_of p b } ≡ reading text
+  read-crew l e = sym (rw (eq-eqb p.latest (stage Crew) e) refl) ∙ at-end l
+
+  pub read-uncrewed : (f : Refusal) → length rest ≤ 0 → (p.latest ≡ stage Crew → ⊥) → f ≡ record { reason = LineOrder; place = place } → record { verdict = told f; read = read_of p b } ≡ reading text
+  read-uncrewed f l n d = rw d (sym (rw (ne_eqb p.latest (stage Crew) n) refl) ∙ at-end l)
 
   module _ (l : 0 < length rest) (e : ℕ) (q : e ≡ span newline rest) where
     pub line-in : e < length rest
     line-in = rw q (line-ends rest l r.last)
 
-    -- a place is small enough to count on
-    pub place-small : place ≤ max_bytes
-    place-small = omega (arith, r.count, r.short)
-
     abbrev after : List ℕ
     after = take (length rest - (e + 1)) (drop (e + 1) rest)
 
-    pub rest-falls : length after < length rest
-    rest-falls = omega (arith, line-in, after-length rest e q line-in)
-
-    split : read_from place (read_in p b) (take e rest ∷ lines after) ≡ reading text
-    split = ap (read_from place (read_in p b)) (sym (lines_next rest e q line-in)) ∙ r.goes
+    split : read_from place (read_of p b) (take e rest ∷ lines after) ≡ reading text
+    split = ap (read_from place (read_of p b)) (sym (lines_next rest e q line-in)) ∙ r.goes
 
     module _ (number : ℕ) (n : number ≡ number_as (line_form (take e rest)) p (take e rest)) where
-      told : line_number (read_in p b) (take e rest) ≡ number
-      told = number-here p b r.room r.within (take e rest) ∙ sym n
+      is : line_number (read_of p b) (take e rest) ≡ number
+      is = number-here p b r.held (take e rest) ∙ sym n
 
-      pub read-refused : (h : Held) → (number ≡ 0 → ⊥) → h ≡ held_as number place p → Ends text h a b
-      read-refused h z f = rw f (sym (step-stop place (read_in p b) (take e rest) (lines after) number told z) ∙ split, (r.spare, r.within))
+    -- what a refused line is made into
+    abbrev pub Refuses : Result Record Reason → Result Record Stopped → Type 0
+    Refuses judged out = MatchResult judged (λ k. out ≡ Ok k) (λ reason. IsErrAnd out (λ s. (s.refusal ≡ record { reason = reason; place = place }) × (s.progress ≡ p)))
 
-      pub reads-next : {kind : Kind} {cells : List ℕ} {m : Progress} {c : Columns}
-          → number ≡ 0 → Recorded (take e rest) kind cells → Stored kind cells p m b c
-          → Reads text after (place + 1) m a c
-      reads-next {m = m} {c = c} z d s =
-          let w = s.read ∙ sym (with-line (read_in p b) d) in
-          record {
-            spare = spare-on p m a b c s.tables-grow s.methods-grow s.edges-grow r.spare s.spare;
-            within = s.within;
-            room = room-kept m b c r.room s.spare;
-            goes = ap (λ (x : Read). read_from (place + 1) x (lines after)) w ∙ sym (step-next place (read_in p b) (take e rest) (lines after) (told ∙ z)) ∙ split;
-            last = after-ended rest e q line-in r.last;
-            count = omega (arith, r.count, line-in, after-length rest e q line-in);
-            short = r.short;
-          }
+    pub read-refused : (judged : Result Record Reason) (out : Result Record Stopped) (s : Stopped) → Judged p (take e rest) judged → Refuses judged out → out ≡ Err s → reading_of (Err s) b ≡ reading text
+    read-refused (Ok k) out s j m z = let w : Ok k ≡ Err s = sym m ∙ z in let w' : ◌≡◌ {A = ℕ} 0 1 = cc in absurd (omega arith)
+    read-refused (Err reason) out s j m z =
+        let d : (s.refusal ≡ record { reason = reason; place = place }) × (s.progress ≡ p) = rw z at m in
+        rw (d.0, d.1) (sym (step-stop place (read_of p b) (take e rest) (lines after) (number_of reason) (is (number_of reason) j.0) (λ z. omega (arith, z, number-within reason))) ∙ split)
+
+    pub reads-next : {k : Record} {m : Progress} {c : Lists} → Judged p (take e rest) (Ok k) → Stored k.kind k.cells p m b c → Reads text after (place + 1) m a c
+    reads-next {k} {m} {c} j s =
+        let w = s.read ∙ sym (with-line (read_of p b) j.1) in
+        record {
+          spare = spare-on p m a b c s.tables-grow s.methods-grow s.edges-grow r.spare s.spare;
+          within = s.within;
+          held = s.held;
+          goes = ap (λ (x : Read). read_from (place + 1) x (lines after)) w ∙ sym (step-next place (read_of p b) (take e rest) (lines after) (is 0 j.0)) ∙ split;
+          last = after-ended rest e q line-in r.last;
+          count = omega (arith, r.count, line-in, after-length rest e q line-in);
+          short = r.short;
+        }

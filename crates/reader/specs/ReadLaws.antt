@@ -1,8 +1,8 @@
 -- Lines in a row, by scans, and what each leaves to be read.
 use Rattle.std.specs.Prelude.{◌≡◌, refl, Bool, true, false, cond, ◌||◌, not, List, [], ◌∷◌, ℕ, zero, suc, ◌≤◌, ◌<◌, ◌+◌, ◌-◌, eqb, ltb, take, drop, get_or}
-use Rattle.std.proofs.Common.{sym, ◌∙◌, ap, add-one, arith, length-drop, drop_of_length-le, get_or-drop, lt-ltb, le-ltb, eq-eqb, ltb-false, eqb-true}
+use Rattle.std.proofs.Common.{sym, ◌∙◌, ap, add-one, arith, length-drop, drop_of_length-le, get_or-drop, eq-eqb, ltb-false, eqb-true}
 use Rattle.std.proofs.Math.Decide.{dec_lt}
-use Rattle.std.proofs.Math.ListN.{length, get_or-eq_default}
+use Rattle.std.proofs.Math.ListN.{length}
 use Rattle.std.proofs.lemmas.Bool.{not-false}
 use Rattle.rules.specs.Limits.{max_bytes}
 use Rattle.rules.specs.Lines.{newline, cut_at, but_last, lines}
@@ -12,24 +12,6 @@ use Rattle.fields.specs.SpanLaws.{rest-is}
 use Rattle.fields.specs.CutLaws.{cut-next, cut-some}
 
 -- ---- 24
-pub unfit-long : (s : List ℕ) → max_bytes < length s → true ≡ unfit s
-unfolding unfit
-unfit-long s l = rw (lt-ltb max_bytes (length s) l)
-
-module _ (s : List ℕ) (l : length s ≤ max_bytes) where
-  pub fit-empty : length s ≡ 0 → false ≡ unfit s
-  unfolding unfit
-  fit-empty e = rw (le-ltb max_bytes (length s) l, get_or-eq_default s newline {n = length s - 1} (omega arith))
-
-  same-default : (xs : List ℕ) (i a b : ℕ) → i < length xs → get_or xs i a ≡ get_or xs i b
-  same-default [] i a b l = absurd (omega arith)
-  same-default (x ∷ xs) zero a b l = refl
-  same-default (x ∷ xs) (suc i) a b l = same-default xs i a b (omega arith)
-
-  pub unfit-end : (length s ≡ 0 → ⊥) → not (eqb (get_or s (length s - 1) 0) newline) ≡ unfit s
-  unfolding unfit
-  unfit-end n = rw (le-ltb max_bytes (length s) l, same-default s (length s - 1) newline 0 (omega arith))
-
 -- its last byte ends a line, or it is empty
 abbrev pub Ended : List ℕ → Type 0
 Ended s = get_or s (length s - 1) newline ≡ newline

@@ -1,7 +1,7 @@
 -- What the proofs of `check` cite: the checks as loops and as lists, and what a passed check says.
-use Rattle.std.specs.Prelude.{◌≡◌, ◌⊎◌, Bool, false, cond, ◌&&◌, ◌||◌, not, List, [], ◌∷◌, ◌++◌, eqb, length, get_or}
+use Rattle.std.specs.Prelude.{◌≡◌, ◌⊎◌, Bool, false, cond, ◌&&◌, ◌||◌, not, List, [], ◌∷◌, ◌++◌, eqb, length, get_or, drop}
 use Rattle.std.proofs.Math.Path.{refl, sym}
-use Rattle.std.proofs.Common.{◌∙◌, inl, inr, ⊎_elim, add-one, arith, pow_pos}
+use Rattle.std.proofs.Common.{ap, ◌∙◌, inl, inr, ⊎_elim, add-one, arith, pow_pos}
 use Rattle.std.proofs.Math.Bool.{true}
 use Prim.Native.Nat.{ℕ, zero, suc, ◌+◌, ◌-◌, ◌*◌, ◌%◌, ◌^◌, ◌≤◌, ◌<◌}
 use Rattle.std.proofs.Math.Decide.{ℕ_discrete}
@@ -13,22 +13,24 @@ use Rattle.rules.specs.Lists.{is_yes}
 use Rattle.rules.specs.Sets.{full}
 use Rattle.rules.specs.Estimate.{joins_at}
 use Rattle.rules.specs.Checked.{GoodGraph}
-use Rattle.rules.specs.Refusals.{none, first_bad, first_of, all_are, all_same, groups, refuse, bad_table, bad_method, joined_below, repeats, edge_or, bad_edge, is_refused, bad_turn, checks_of}
-use Rattle.rules.specs.laws.Bools.{true-or-false, or-true-l, or_true_r}
+use Rattle.rules.specs.Refusals.{first_bad, first_of, all_are, all_same, groups, refuse, bad_table, bad_method, joined_below, repeats, edge_or, bad_edge, is_refused, bad_turn, checks_of}
+use Rattle.rules.specs.laws.Bools.{true-or-false, not-both, or-true-l, or_true_r}
 use Rattle.sets.specs.Laws.{shifted_one}
 use Rattle.query.specs.Lists.{same_pair}
 use Rattle.refusals.specs.Checks.{query_groups, table_number, method_number, table_checks, method_checks, graph_checks, crew_checks, TablesGood}
 use Rattle.rules.specs.laws.Refusals.{lengths-of, same_true, none-refuse, none-bad, range, table-true, edge-true, bad-step, bad-here, bad-end, SameLengths}
 use Rattle.rules.specs.laws.Decide.{connected?}
-use Rattle.rules.specs.declared.Verdict.{Verdict}
+use Rattle.rules.specs.Verdict.{Verdict, none, number_of}
+use Rattle.rules.specs.declared.refusal.Reason.{Reason}
+use Rattle.rules.specs.declared.refusal.Reason.TheVariants.{ListLengths, TableCount, TableOver, MethodCount, MethodOver, EdgeOutside, EdgeItself, EdgeDivisor, EdgeRepeated, Unconnected, CrewRange, TurnWorker, MemoRows, SkipCells, LineFields, LineNumber, LineOrder, TextEnd, LineExcess}
 use Rattle.rules.specs.declared.Table.{Table}
-use Rattle.rules.specs.declared.NewTable.TheVariants.{Good as GoodTable, Over as OverTable}
 use Rattle.rules.specs.declared.Method.{Method}
-use Rattle.rules.specs.declared.NewMethod.TheVariants.{Good as GoodMethod, Over as OverMethod}
-use Rattle.rules.specs.declared.NewEdge.{NewEdge}
 use Rattle.rules.specs.declared.Crew.{Crew}
-use Rattle.rules.specs.declared.NewCrew.{NewCrew}
-use Rattle.rules.specs.declared.NewCrew.TheVariants.{Good as GoodCrew, Refused}
+use Rattle.std.specs.Prelude.{◌==◌, Err, None, Option, Result, Some}
+use Rattle.std.specs.List.{list_all}
+use Rattle.rules.specs.declared.Edge.{Edge}
+use Rattle.rules.specs.declared.EdgeFault.{EdgeFault}
+use Rattle.rules.specs.declared.EdgeFault.TheVariants.{Outside, Itself, Divisor}
 
 -- ---- a loop over records 0 to n - 1, of which those before i are good
 module _ (f : ℕ → ℕ) (n : ℕ) where
@@ -49,8 +51,30 @@ module _ (f : ℕ → ℕ) (n : ℕ) where
     pub rest-none : n ≤ i → none ≡ first_bad f 0 n
     rest-none l = bad-end f i n l ∙ rest
 
+-- every reason has a number
+pub some-number : (reason : Reason) → number_of reason ≡ 0 → ⊥
+some-number ListLengths e = absurd (omega arith)
+some-number TableCount e = absurd (omega arith)
+some-number TableOver e = absurd (omega arith)
+some-number MethodCount e = absurd (omega arith)
+some-number MethodOver e = absurd (omega arith)
+some-number EdgeOutside e = absurd (omega arith)
+some-number EdgeItself e = absurd (omega arith)
+some-number EdgeDivisor e = absurd (omega arith)
+some-number EdgeRepeated e = absurd (omega arith)
+some-number Unconnected e = absurd (omega arith)
+some-number CrewRange e = absurd (omega arith)
+some-number TurnWorker e = absurd (omega arith)
+some-number MemoRows e = absurd (omega arith)
+some-number SkipCells e = absurd (omega arith)
+some-number LineFields e = absurd (omega arith)
+some-number LineNumber e = absurd (omega arith)
+some-number LineOrder e = absurd (omega arith)
+some-number TextEnd e = absurd (omega arith)
+some-number LineExcess e = absurd (omega arith)
+
 -- ---- one record
-table-cases : (t : Table) (b : Bool) → table_number (cond b (GoodTable t) OverTable) ≡ cond b 0 3
+table-cases : (t : Table) (b : Bool) → table_number (cond b (Some t) None) ≡ cond b 0 3
 table-cases t true = refl
 table-cases t false = refl
 
@@ -59,7 +83,7 @@ unfolding bad_table
 table-number rows scans i =
     table-cases (record { rows = get_or rows i 0; scan = get_or scans i 0 }) (table_fits (get_or rows i 0) (get_or scans i 0))
 
-method-cases : (m : Method) (b : Bool) → method_number (cond b (GoodMethod m) OverMethod) ≡ cond b 0 5
+method-cases : (m : Method) (b : Bool) → method_number (cond b (Some m) None) ≡ cond b 0 5
 method-cases m true = refl
 method-cases m false = refl
 
@@ -115,56 +139,57 @@ module _ (g : Graph) (i : ℕ) where
   repeats-none j h e = sym (rw e at h)
 
   -- the edge by itself, and then whether it repeats one
-  module _ (made : NewEdge) (is_made : made ≡ new_edge (table_count g) (get_or g.left i 0) (get_or g.right i 0) (get_or g.divisors i 0)) where
+  module _ (made : Result Edge EdgeFault) (is_made : made ≡ new_edge (table_count g) (get_or g.left i 0) (get_or g.right i 0) (get_or g.divisors i 0)) where
     pub edge-bad : (n : ℕ) → edge_number made ≡ suc n → suc n ≡ bad_edge g i
     unfolding bad_edge edge_or
     edge-bad n e = rw (← is_made, e)
+
+    pub edge-fault : (f : EdgeFault) → made ≡ Err f → edge_number (Err f) ≡ bad_edge g i
+    edge-fault Outside e = edge-bad 5 (ap edge_number e)
+    edge-fault Itself e = edge-bad 6 (ap edge_number e)
+    edge-fault Divisor e = edge-bad 7 (ap edge_number e)
 
     pub edge-good : (b : Bool) → edge_number made ≡ 0 → b ≡ repeats g i → cond b 9 0 ≡ bad_edge g i
     unfolding bad_edge edge_or
     edge-good b e h = rw (← is_made, e, h)
 
 -- ---- lengths
-module _ (n k : ℕ) (ks : List ℕ) where
-  pub are-not : (k ≡ n → ⊥) → false ≡ all_are n (k ∷ ks)
-  unfolding all_are
-  are-not h = rw (ne_eqb k n h)
-
-  pub are-on : k ≡ n → all_are n ks ≡ all_are n (k ∷ ks)
-  unfolding all_are
-  are-on h = rw (eq-eqb k n h)
-
 and-end : (b : Bool) → b ≡ (b && true)
 and-end true = refl
 and-end false = refl
 
-pub are-last : (n k : ℕ) → eqb k n ≡ all_are n (k ∷ [])
+-- as one test of each
+are-each : (n : ℕ) (ks : List ℕ) → list_all (λ k. k == n) ks ≡ all_are n ks
 unfolding all_are
-are-last n k = and-end (eqb k n)
+are-each n [] = refl
+are-each n (k ∷ ks) = rw (are-each n ks) refl
 
--- a group, where the code has asked whether it fits
-module _ (n : ℕ) (ks : List ℕ) (gs : List (List ℕ)) (fit : Bool) (is-fit : fit ≡ all_are n ks) where
-  pub same_not : not fit ≡ true → false ≡ all_same ((n ∷ ks) ∷ gs)
-  unfolding all_same
-  same_not h = rw (← is-fit, not-true fit h)
+are-first : (l : ℕ) (ls : List ℕ) → all_are l (l ∷ ls) ≡ all_are l ls
+unfolding all_are
+are-first l ls = rw (eq-eqb l l refl) refl
 
-  pub same-on : not fit ≡ false → all_same gs ≡ all_same ((n ∷ ks) ∷ gs)
-  unfolding all_same
-  same-on h = rw (← is-fit, not-false fit h)
-
--- a group of two, which the code compares itself
-module _ (n k : ℕ) (gs : List (List ℕ)) where
-  pub first-not : (k ≡ n → ⊥) → false ≡ all_same ((n ∷ k ∷ []) ∷ gs)
+-- a group, where the code has compared each length with the first
+module _ (ns : List ℕ) (gs : List (List ℕ)) {fit : Bool} (is-fit : fit ≡ list_all (λ k. k == get_or ns 0 0) ns) where
+  pub same_not : fit ≡ false → fit ≡ all_same (ns ∷ gs)
   unfolding all_same all_are
-  first-not h = rw (ne_eqb k n h)
+  same_not h = go ns is-fit
+    where
+      go : (ls : List ℕ) → fit ≡ list_all (λ k. k == get_or ls 0 0) ls → fit ≡ all_same (ls ∷ gs)
+      go [] e = absurd (not-both true refl (sym e ∙ h))
+      go (l ∷ ls) e = let k : fit ≡ all_are l ls = e ∙ are-each l (l ∷ ls) ∙ are-first l ls in rw (← k, h) refl
 
-  pub first_on : k ≡ n → all_same gs ≡ all_same ((n ∷ k ∷ []) ∷ gs)
+  pub same-on : fit ≡ true → {others : Bool} → others ≡ all_same gs → others ≡ all_same (ns ∷ gs)
   unfolding all_same all_are
-  first_on h = rw (eq-eqb k n h)
+  same-on h {others} f = go ns is-fit
+    where
+      go : (ls : List ℕ) → fit ≡ list_all (λ k. k == get_or ls 0 0) ls → others ≡ all_same (ls ∷ gs)
+      go [] e = f
+      go (l ∷ ls) e = let k : fit ≡ all_are l ls = e ∙ are-each l (l ∷ ls) ∙ are-first l ls in rw (← k, h) f
 
-pub same-last : (n : ℕ) (ks : List ℕ) (fit : Bool) → fit ≡ all_are n ks → fit ≡ all_same ((n ∷ ks) ∷ [])
+-- the last group
+pub same-last : (ns : List ℕ) {fit : Bool} → fit ≡ list_all (λ k. k == get_or ns 0 0) ns → fit ≡ all_same (ns ∷ [])
 unfolding all_same
-same-last n ks fit e = e ∙ and-end (all_are n ks)
+same-last ns {fit} e = ⊎_elim (λ h. same-on ns [] e h h) (λ h. same_not ns [] e h) (true-or-false fit)
 
 -- refusal 1: the query's lists and the lent columns
 same_parts : (q : Query) (memo log : List ℕ) → (all_same (query_groups q) && all_same (memo ∷ log ∷ [])) ≡ all_same (groups q memo log)
@@ -181,11 +206,11 @@ same_parts q memo log = and_parts (all_are (table_count q.graph) (length q.scans
     and_parts true true true e = refl
 
 module _ (q : Query) (memo log : List ℕ) (fit : Bool) (is-fit : fit ≡ all_same (query_groups q)) where
-  pub parts-not : not fit ≡ true → false ≡ all_same (groups q memo log)
-  parts-not h = rw (← is-fit, not-true fit h) at (same_parts q memo log)
+  pub parts-not : fit ≡ false → fit ≡ all_same (groups q memo log)
+  parts-not h = h ∙ rw (← is-fit, h) at (same_parts q memo log)
 
-  pub parts-on : not fit ≡ false → (lent : Bool) → lent ≡ all_same (memo ∷ log ∷ []) → lent ≡ all_same (groups q memo log)
-  parts-on h lent e = e ∙ rw (← is-fit, not-false fit h) at (same_parts q memo log)
+  pub parts-on : fit ≡ true → (lent : Bool) → lent ≡ all_same (memo ∷ log ∷ []) → lent ≡ all_same (groups q memo log)
+  parts-on h lent e = e ∙ rw (← is-fit, h) at (same_parts q memo log)
 
 -- ---- one check after another
 -- a verdict without a number has no place: it may stand last
@@ -226,20 +251,20 @@ module _ (n : ℕ) (b : Bool) (f : ℕ → ℕ) (k : ℕ) (fit : Bool) (is-fit :
   count_fits h v e = e ∙ bad_last f 0 k ∙ refused-on n b (first_bad f 0 k ∷ []) fit is-fit h
 
 -- ---- workers and scheme
-refused-false : (made : NewCrew) (c : Crew) → made ≡ GoodCrew c → is_refused made ≡ false
+refused-false : (made : Option Crew) (c : Crew) → made ≡ Some c → is_refused made ≡ false
 unfolding is_refused
 refused-false made c e = rw e
 
-refused-true : (made : NewCrew) → made ≡ Refused → is_refused made ≡ true
+refused-true : (made : Option Crew) → made ≡ None → is_refused made ≡ true
 unfolding is_refused
 refused-true made e = rw e
 
-module _ (workers scheme : ℕ) (turns : List ℕ) (made : NewCrew) (is_made : made ≡ new_crew workers scheme) where
-  pub crew-good : (c : Crew) → made ≡ GoodCrew c → (v : Verdict) → v ≡ first_bad (bad_turn workers turns) 0 (length turns) → v ≡ first_of (crew_checks workers scheme turns)
+module _ (workers scheme : ℕ) (turns : List ℕ) (made : Option Crew) (is_made : made ≡ new_crew workers scheme) where
+  pub crew-good : (c : Crew) → made ≡ Some c → (v : Verdict) → v ≡ first_bad (bad_turn workers turns) 0 (length turns) → v ≡ first_of (crew_checks workers scheme turns)
   unfolding first_of refuse
   crew-good c e v h = h ∙ bad_last (bad_turn workers turns) 0 (length turns) ∙ rw (← is_made, refused-false made c e)
 
-  pub crew-refused : made ≡ Refused → record { number = 11; place = 0 } ≡ first_of (crew_checks workers scheme turns)
+  pub crew-refused : made ≡ None → record { number = 11; place = 0 } ≡ first_of (crew_checks workers scheme turns)
   unfolding first_of refuse
   crew-refused e = rw (← is_made, refused-true made e)
 

@@ -7,11 +7,10 @@ use Rattle.rules.specs.Sets.{full}
 use Rattle.rules.specs.Query.{Graph, Query, table_count, edge_count}
 use Rattle.rules.specs.Refusals.{refuse, first_bad, bad_table, bad_method, bad_edge, is_refused, bad_turn}
 use Rattle.rules.specs.laws.Decide.{connected?}
-use Rattle.rules.specs.declared.Verdict.{Verdict}
-use Rattle.rules.specs.declared.NewTable.{NewTable}
-use Rattle.rules.specs.declared.NewTable.TheVariants.{Good as GoodTable, Over as OverTable}
-use Rattle.rules.specs.declared.NewMethod.{NewMethod}
-use Rattle.rules.specs.declared.NewMethod.TheVariants.{Good as GoodMethod, Over as OverMethod}
+use Rattle.rules.specs.Verdict.{Verdict}
+use Rattle.std.specs.Prelude.{None, Option, Some}
+use Rattle.rules.specs.declared.Method.{Method}
+use Rattle.rules.specs.declared.Table.{Table}
 
 -- the lengths of a query's lists: those of tables, of edges, of methods
 abbrev pub query_groups : Query → List (List ℕ)
@@ -22,14 +21,14 @@ query_groups q =
     ∷ []
 
 -- refusal 3 of one table, 0 for none
-abbrev pub table_number : NewTable → ℕ
-table_number (GoodTable t) = 0
-table_number OverTable = 3
+abbrev pub table_number : Option Table → ℕ
+table_number (Some t) = 0
+table_number None = 3
 
 -- refusal 5 of one method, 0 for none
-abbrev pub method_number : NewMethod → ℕ
-method_number (GoodMethod m) = 0
-method_number OverMethod = 5
+abbrev pub method_number : Option Method → ℕ
+method_number (Some m) = 0
+method_number None = 5
 
 -- refusals 2 and 3
 abbrev pub table_checks : List ℕ → List ℕ → List Verdict

@@ -1,5 +1,5 @@
 -- What a choice and a row are in the code's values, and prices over plain numbers.
-use Rattle.std.specs.Prelude.{◌≡◌, cond, List, ℕ, ◌+◌, ◌*◌, ◌≤◌, eqb, ltb, length, get_or}
+use Rattle.std.specs.Prelude.{◌≡◌, cond, List, ℕ, ◌+◌, ◌*◌, ◌≤◌, eqb, length, get_or}
 use Rattle.rules.specs.Limits.{max_methods, max_fixed, max_coefficient, max_estimate}
 use Rattle.rules.specs.Query.{at}
 use Rattle.rules.specs.Offers as rules
@@ -21,9 +21,9 @@ price_by fixed outer inner result ex ey er m = at fixed m + at outer m * ex + at
 abbrev pub packed : ℕ → ℕ → ℕ → ℕ → ℕ → ℕ → ℕ → ℕ → ℕ
 packed fixed outer inner result ex ey er m = (fixed + outer * ex + inner * ey + result * er) * 8 + m
 
--- the lesser of two numbers
-abbrev pub lesser : ℕ → ℕ → ℕ
-lesser a b = cond (ltb b a) b a
+-- the same of the method at place k of these lists
+abbrev pub packed_at : List ℕ → List ℕ → List ℕ → List ℕ → ℕ → ℕ → ℕ → ℕ → ℕ
+packed_at fixed outer inner result ex ey er k = packed (get_or fixed k 0) (get_or outer k 0) (get_or inner k 0) (get_or result k 0) ex ey er (k + 1)
 
 -- the methods of a query within their limits
 pub record Methods (fixed outer inner result : List ℕ) : Type 0 where
@@ -43,13 +43,17 @@ pub record Estimates (ex ey er : ℕ) : Type 0 where
   pub second : ey ≤ max_estimate
   pub result : er ≤ max_estimate
 
--- r is the least of the methods' packed prices
-pub record Cheapest (fixed outer inner result : List ℕ) (ex ey er r : ℕ) : Type 0 where
+-- r is the least packed price of the first k methods
+pub record CheapestOf (fixed outer inner result : List ℕ) (ex ey er k r : ℕ) : Type 0 where
   pub method : ℕ
   pub from_one : 1 ≤ method
-  pub to-count : method ≤ length fixed
+  pub to-count : method ≤ k
   pub is : r ≡ price_by fixed outer inner result ex ey er method * 8 + method
-  pub least : (m : ℕ) → 1 ≤ m → m ≤ length fixed → r ≤ price_by fixed outer inner result ex ey er m * 8 + m
+  pub least : (m : ℕ) → 1 ≤ m → m ≤ k → r ≤ price_by fixed outer inner result ex ey er m * 8 + m
+
+-- of all methods
+abbrev pub Cheapest : List ℕ → List ℕ → List ℕ → List ℕ → ℕ → ℕ → ℕ → ℕ → Type 0
+Cheapest fixed outer inner result ex ey er r = CheapestOf fixed outer inner result ex ey er (length fixed) r
 
 -- what outer X costs by method m, the other set being the inner one: the two cost `base`, x has the estimate ex, the other one ey, their result er
 abbrev pub join_by : List ℕ → List ℕ → List ℕ → List ℕ → ℕ → ℕ → ℕ → ℕ → ℕ → ℕ → ℕ → ℕ → ℕ

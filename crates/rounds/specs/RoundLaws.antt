@@ -1,44 +1,44 @@
 -- Opening a group, its turns and its end, as the program meets them.
-use Rattle.std.specs.Prelude.{◌≡◌, ◌⊎◌, Bool, true, false, cond, List, [], ◌∷◌, ℕ, ◌+◌, ◌-◌, ◌*◌, ◌≤◌, ◌<◌, ltb, length, get_or, replicate}
-use Rattle.std.proofs.Common.{sym, ap, ◌∙◌, inl, inr, ⊎_elim, add-one, arith, pow_mono, length-set, ltb-true}
+use Rattle.std.specs.Prelude.{◌≡◌, ◌⊎◌, Bool, true, false, cond, List, [], ◌∷◌, Option, Some, Result, ℕ, ◌+◌, ◌-◌, ◌*◌, ◌≤◌, ◌<◌, ltb, length, get_or, map, take, replicate}
+use Rattle.std.specs.Result.{is_err}
+use Rattle.std.proofs.Common.{sym, ap, ◌∙◌, inl, inr, ⊎_elim, add-one, arith, ltb-true, length-take, get_or-take}
 use Rattle.std.proofs.Math.Decide.{dec_lt}
-use Rattle.std.proofs.lemmas.List.{get_or-replicate}
-use Rattle.rules.specs.Limits.{max_workers}
+use Rattle.std.proofs.lemmas.Option.{same_Some}
 use Rattle.rules.specs.declared.Crew.{Crew}
 use Rattle.rules.specs.declared.Group.{Group}
-use Rattle.rules.specs.declared.Scheme.{Scheme}
+use Rattle.rules.specs.Kinds.{new_crew}
 use Rattle.rules.specs.Schedule.{Schedule, by_size}
 use Rattle.rules.proofs.laws.Schedule.{by-size}
 use Rattle.rules.specs.Query.{Graph, Query, table_count}
+use Rattle.rules.specs.Estimate.{estimate}
 use Rattle.rules.specs.Rows.{memo}
 use Rattle.rules.specs.Shares.{met}
 use Rattle.rules.specs.Skips.{skips}
 use Rattle.rules.specs.Refusals.{first_of, checks_of}
-use Rattle.rules.specs.Checked.{GoodGraph, Sound}
-use Rattle.rules.specs.laws.Bools.{true-or-false}
-use Rattle.rules.specs.laws.Lists.{at_in}
+use Rattle.rules.specs.Checked.{Sound}
+use Rattle.rules.specs.laws.Bools.{true-or-false, not-both}
 use Rattle.rules.specs.laws.Shares.{cut-mono}
-use Rattle.rules.proofs.laws.Rows.{memo-only, below_all}
-use Rattle.rules.specs.laws.Refusals.{sound-of, crew-of, turns-of}
+use Rattle.rules.specs.laws.Refusals.{sound-of, crew-named, crew-of, turns-of}
 use Rattle.memo.specs.declared.layout.Laid.{Laid}
+use Rattle.rules.specs.declared.refusal.Refusal.{Refusal}
 use Rattle.skips.specs.Vectors.{written}
 use Rattle.starts.specs.Starts.{starts, cell_starts}
 use Rattle.memo.specs.Layout.{Lent, OneLength, Room, laid, LaidOut}
 use Rattle.memo.specs.LayoutLaws.{still-long, one-length}
+use Rattle.shares.specs.Nowhere.{left}
 use Rattle.shares.specs.Shares.{few}
-use Rattle.pairs.specs.Places.{Fit}
-use Rattle.rules.specs.laws.Choice.{kept}
+use Rattle.pairs.specs.Places.{Fit, Ground}
 use Rattle.crew.specs.declared.Worker.{Worker}
 use Rattle.crew.specs.declared.Handed as code
 use Rattle.opening.specs.Opening.{Opened}
-use Rattle.turns.specs.Standing.{Columns, columns, choice_in, top_of, Reach, Board, Ready, InPlace, TurnTaken, Final, Work}
+use Rattle.turns.specs.Standing.{Columns, columns, top_of, Reach, Open, Board, InPlace, TurnTaken, Work}
 use Rattle.crew.specs.Workers.{nobody, worker_at}
 use Rattle.turns.specs.StandingLaws.{open-first, open-places, top-is, fit_is, few-handed, standing-open, standing-turn, standing-closed}
 use Rattle.turns.specs.QueueLaws.{still_met, turn-progress, turn-progress-none}
-use Rattle.turns.specs.StepLaws.{set_at, driving-inside, inner-inside}
-use Rattle.turns.specs.StartLaws.{tables-fit, Starting, final-start, reach-start, ground-of, Prepared, estimated-of, board-of}
+use Rattle.turns.specs.StepLaws.{set_at, driving-inside, inner-inside, step-costs, step-outers, step-methods}
+use Rattle.turns.specs.StartLaws.{tables-fit, Starting, final-start, reach-start, ground-of, estimated-of, open-of}
 use Rattle.crew.specs.Whose.{LowestLeft, whose, entries_on}
-use Rattle.rounds.specs.Rounds.{Printable, Shown, Between, Within, Started}
+use Rattle.rounds.specs.Rounds.{Shown, Between, Within, Started}
 
 -- whoever has the turn is one of the workers
 pub whose-known : {q : Query} {crew : Crew} {groups : Schedule} {turns : List ℕ} (used low : ℕ) {w : ℕ} → Work q crew groups turns → low < crew.workers → w ≡ whose turns used low → w < crew.workers
@@ -51,60 +51,24 @@ whose-known {crew = crew} {turns = turns} used low {w} z l e = go (true-or-false
     go (inl t) = omega (arith, is true t, z.turns-known used (ltb-true used (length turns) t))
     go (inr t) = omega (arith, is false t)
 
--- a row's set can be printed
-printable-row : (g : Graph) → GoodGraph g → (r : ℕ) → r < length (memo g) → Printable (get_or (memo g) r 0)
-printable-row g good r l = omega (arith, below_all g (get_or (memo g) r 0) (memo-only g (get_or (memo g) r 0) (at_in 0 (memo g) r l)), pow_mono {i = table_count g} {j = 32} (omega (arith, good.few-tables)))
-
 module _ {g : Graph} {fixed outer inner result sets estimates cells starts cell_starts : List ℕ} {group : Group} {c : Columns} (b : Board g fixed outer inner result sets estimates cells starts cell_starts group c) where
-  -- so can where a worker waits
+  -- where a worker waits can be printed
   pub shown_of : {crew : Crew} {workers : List Worker} → InPlace g group crew workers → (w : ℕ) → w < crew.workers → Shown sets (worker_at workers w)
   shown_of {crew} z w l = record {
     share = rw (z.share w l) (cut-mono (length (met g group)) crew.workers w (w + 1) (omega arith) (omega arith));
-    driving = λ e.
-        let i = driving-inside b (z.ready w l) e in
-        let x = set_at b _ i in
-        (x.0, rw x.1 (printable-row g b.graph _ i));
-    inner = λ e.
-        let i = inner-inside b (z.ready w l) e in
-        let x = set_at b _ i in
-        (x.0, rw x.1 (printable-row g b.graph _ i));
+    driving = λ s e. (set_at b _ (driving-inside b (z.ready w l) e)).0;
+    inner = λ s e. (set_at b _ (inner-inside b (z.ready w l) e)).0;
   }
 
-  module _ {w : ℕ} {workers workers' : List Worker} {new : Columns} {pair : code.Handed} (t : TurnTaken g fixed outer inner result group w workers workers' c new pair) where
-    -- and what a turn hands
-    pub printable-pair : Ready g group (worker_at workers w) → Printable pair.driving × Printable pair.inner
-    printable-pair r = ⊎_elim some none (true-or-false (worker_at workers w).place.left)
-      where
-        some : (worker_at workers w).place.left ≡ true → Printable pair.driving × Printable pair.inner
-        some e =
-            let a = (t.step.some e).answer in
-            (rw (ap (λ (p : code.Handed). p.driving) a) (printable-row g b.graph _ (driving-inside b r e)), rw (ap (λ (p : code.Handed). p.inner) a) (printable-row g b.graph _ (inner-inside b r e)))
+-- the first m workers
+pub shown-taken : {sets : List ℕ} (workers : List Worker) {m : ℕ} → ((w : ℕ) → w < m → Shown sets (worker_at workers w)) → (w : ℕ) → w < length (take m workers) → Shown sets (worker_at (take m workers) w)
+shown-taken workers {m} f w l =
+    let k : w < m = omega (arith, length-take m workers) in
+    rw (get_or-take m workers w nobody k) (f w k)
 
-        none : (worker_at workers w).place.left ≡ false → Printable pair.driving × Printable pair.inner
-        none e =
-            let a = (t.step.none e).2 in
-            (omega (arith, ap (λ (p : code.Handed). p.driving) a), omega (arith, ap (λ (p : code.Handed). p.inner) a))
-
-    -- no column gets shorter
-    turn-reach : Reach g new
-    turn-reach = ⊎_elim some none (true-or-false (worker_at workers w).place.left)
-      where
-        some : (worker_at workers w).place.left ≡ true → Reach g new
-        some e =
-            let h = t.step.some e in
-            let k = kept (choice_in c h.row) h.offer in
-            rw h.changed (record {
-              costs = omega (arith, length-set c.costs h.row k.cost, b.reach.costs);
-              outers = omega (arith, length-set c.outers h.row k.outer, b.reach.outers);
-              methods = omega (arith, length-set c.methods h.row k.method, b.reach.methods);
-            })
-
-        none : (worker_at workers w).place.left ≡ false → Reach g new
-        none e = rw (t.step.none e).1 b.reach
-
--- before the first group nothing was handed
-pub first-between : {q : Query} {crew : Crew} {c : Columns} {v : Worker} → crew.workers ≤ max_workers → v ≡ nobody → Reach q.graph c → Final q crew (by_size q.shape) 1 c → Between q crew 1 (replicate 8 v) c
-first-between {v = v} few-workers e r f = record { reach = r; final = f; handed = λ w l. omega (arith, ap (λ (x : Worker). x.handed) (get_or-replicate 8 w v nobody (omega arith) ∙ e)) }
+-- no column gets shorter
+turn-reach : {g : Graph} {fixed outer inner result : List ℕ} {group : Group} {w : ℕ} {workers workers' : List Worker} {c new : Columns} {pair : Option code.Handed} → TurnTaken g fixed outer inner result group w workers workers' c new pair → Reach g c → Reach g new
+turn-reach t r = record { costs = omega (arith, r.costs, step-costs t.step); outers = omega (arith, r.outers, step-outers t.step); methods = omega (arith, r.methods, step-methods t.step) }
 
 module _ {q : Query} {crew : Crew} {turns : List ℕ} (work : Work q crew (by_size q.shape) turns) {k : ℕ} (one : 1 ≤ k) (known : k ≤ table_count q.graph - 1) {group : Group} (is : group ≡ by_size q.shape k) where
   -- it fits
@@ -127,17 +91,17 @@ module _ {q : Query} {crew : Crew} {turns : List ℕ} (work : Work q crew (by_si
     within-places = rw is z.standing.places
 
     -- a turn of it may be taken
-    pub within-board : {sets estimates cells starts cell_starts : List ℕ} → Prepared q sets estimates cells starts cell_starts → Board q.graph q.fixed q.per_outer q.per_inner q.per_result sets estimates cells starts cell_starts group c
-    within-board p =
+    pub within-plays : Open q.graph group c
+    within-plays =
         let e = top-is work one known in
-        rw is (board-of p (fit_is work one known) (omega (arith, e)) z.reach (λ S d l. z.standing.rows.final S d (omega (arith, e))))
+        rw is (open-of work.sound (fit_is work one known) (omega (arith, e)) z.reach (λ S d l. z.standing.rows.final S d (omega (arith, e))))
 
-    module _ {w : ℕ} {workers' : List Worker} {new : Columns} {pair : code.Handed} (l : w < crew.workers)
+    module _ {w : ℕ} {workers' : List Worker} {new : Columns} {pair : Option code.Handed} (l : w < crew.workers)
         (t : TurnTaken q.graph q.fixed q.per_outer q.per_inner q.per_result group w workers workers' c new pair) where
       -- is taken
-      pub turned-within : {sets estimates cells starts cell_starts : List ℕ} → Prepared q sets estimates cells starts cell_starts → Within q crew k workers' new
-      turned-within p = record {
-        reach = turn-reach (within-board p) t;
+      pub turned-within : Within q crew k workers' new
+      turned-within = record {
+        reach = turn-reach t z.reach;
         standing = standing-turn work one known l z.reach z.standing (rw is at t);
       }
 
@@ -146,11 +110,11 @@ module _ {q : Query} {crew : Crew} {turns : List ℕ} (work : Work q crew (by_si
           → length turns - used' + still_met q.graph group crew.workers workers' < length turns - used + still_met q.graph group crew.workers workers
       turned-less used low {used'} n j e f = go (true-or-false (ltb used (length turns)))
         where
-          fewer : (worker_at workers w).place.left ≡ true → still_met q.graph group crew.workers workers' < still_met q.graph group crew.workers workers
+          fewer : left (worker_at workers w).place ≡ true → still_met q.graph group crew.workers workers' < still_met q.graph group crew.workers workers
           fewer h = turn-progress within-places l t h
 
           no_more : still_met q.graph group crew.workers workers' ≤ still_met q.graph group crew.workers workers
-          no_more = ⊎_elim (λ h. omega (arith, fewer h)) (λ h. omega (arith, turn-progress-none within-places l t h)) (true-or-false (worker_at workers w).place.left)
+          no_more = ⊎_elim (λ h. omega (arith, fewer h)) (λ h. omega (arith, turn-progress-none within-places l t h)) (true-or-false (left (worker_at workers w).place))
 
           go : (ltb used (length turns) ≡ true) ⊎ (ltb used (length turns) ≡ false) → length turns - used' + still_met q.graph group crew.workers workers' < length turns - used + still_met q.graph group crew.workers workers
           go (inl b) =
@@ -170,63 +134,64 @@ module _ {q : Query} {crew : Crew} {turns : List ℕ} (work : Work q crew (by_si
     })
 
 -- ---- laying out
-module _ (q : Query) (workers scheme : ℕ) (turns log : List ℕ) (old : Lent) {new : Lent} {r : Laid}
-    (passed : (first_of (checks_of q workers scheme turns (length old.sets ∷ length old.estimates ∷ length old.costs ∷ length old.outers ∷ length old.methods ∷ []) log)).number ≡ 0)
-    (laid_out : LaidOut q.graph old new r) (not-refused : r.refusal ≡ 0) where
-  sound : Sound q
-  sound = sound-of q workers scheme turns (length old.sets ∷ length old.estimates ∷ length old.costs ∷ length old.outers ∷ length old.methods ∷ []) log passed
+module _ (q : Query) (workers scheme : ℕ) (turns log : List ℕ) (old : Lent)
+    (passed : (first_of (checks_of q workers scheme turns (length old.sets ∷ length old.estimates ∷ length old.costs ∷ length old.outers ∷ length old.methods ∷ []) log)).number ≡ 0) where
+  abbrev lengths : List ℕ
+  lengths = length old.sets ∷ length old.estimates ∷ length old.costs ∷ length old.outers ∷ length old.methods ∷ []
 
-  one : OneLength old
+  pub sound : Sound q
+  sound = sound-of q workers scheme turns lengths log passed
+
+  pub one : OneLength old
   one = one-length q workers scheme turns log old passed
 
-  -- what is not refused has room
-  room : Room q.graph old
-  room = record { rows = rows (dec_lt (length old.sets) (length (memo q.graph))); cells = cells (dec_lt (length old.sets) (length (memo q.graph))) (dec_lt (length old.skips) (length (skips q.graph))) }
-    where
-      number : {x : Laid} → r ≡ x → x.refusal ≡ 0
-      number e = sym (ap (λ (y : Laid). y.refusal) e) ∙ not-refused
+  module _ {new : Lent} {r : Result Laid Refusal} (laid_out : LaidOut q.graph old new r) (not-refused : is_err r ≡ false) where
+    -- what is not refused has room
+    room : Room q.graph old
+    room = record { rows = rows (dec_lt (length old.sets) (length (memo q.graph))); cells = cells (dec_lt (length old.sets) (length (memo q.graph))) (dec_lt (length old.skips) (length (skips q.graph))) }
+      where
+        rows : Dec (length old.sets < length (memo q.graph)) → length (memo q.graph) ≤ length old.sets
+        rows (yes l) = absurd (not-both (is_err r) (ap is_err (laid_out.refused13 l).0) not-refused)
+        rows (no n) = omega arith
 
-      rows : Dec (length old.sets < length (memo q.graph)) → length (memo q.graph) ≤ length old.sets
-      rows (yes l) = absurd (omega (arith, number (laid_out.refused13 l).0))
-      rows (no n) = omega arith
+        cells : Dec (length old.sets < length (memo q.graph)) → Dec (length old.skips < length (skips q.graph)) → length (skips q.graph) ≤ length old.skips
+        cells (yes l) d = absurd (not-both (is_err r) (ap is_err (laid_out.refused13 l).0) not-refused)
+        cells (no n) (yes k) = absurd (not-both (is_err r) (ap is_err (laid_out.refused14 (omega arith) k).0) not-refused)
+        cells (no n) (no k) = omega arith
 
-      cells : Dec (length old.sets < length (memo q.graph)) → Dec (length old.skips < length (skips q.graph)) → length (skips q.graph) ≤ length old.skips
-      cells (yes l) d = absurd (omega (arith, number (laid_out.refused13 l).0))
-      cells (no n) (yes k) = absurd (omega (arith, number (laid_out.refused14 (omega arith) k).0))
-      cells (no n) (no k) = omega arith
+    is : new ≡ laid q.graph old
+    is = (laid_out.given room).1
 
-  is : new ≡ laid q.graph old
-  is = (laid_out.given room).1
+    -- there is a row for each table
+    pub scans-fit : length q.scans ≤ length new.costs
+    scans-fit =
+        let z : ℕ = 0 in
+        let zeros = replicate (length (memo q.graph)) z in
+        omega (arith, sound.scan-list, tables-fit q.graph sound.graph, room.rows, one.costs, still-long zeros old.costs (ap (λ (x : Lent). x.costs) is))
 
-  -- there is a row for each table
-  pub scans-fit : length q.scans ≤ length new.costs
-  scans-fit =
-      let z : ℕ = 0 in
-      let zeros = replicate (length (memo q.graph)) z in
-      omega (arith, sound.scan-list, tables-fit q.graph sound.graph, room.rows, one.costs, still-long zeros old.costs (ap (λ (x : Lent). x.costs) is))
+    -- candidates may be met
+    pub grounded : (old_starts old_cell_starts : List ℕ) {starts₁ cell_starts₁ : List ℕ} → table_count q.graph + 2 ≤ length old_starts → table_count q.graph + 2 ≤ length old_cell_starts
+        → starts₁ ≡ written old_starts 0 (starts q.graph) → cell_starts₁ ≡ written old_cell_starts 0 (cell_starts q.graph) → Ground q.graph new.sets new.skips starts₁ cell_starts₁
+    grounded old_starts old_cell_starts a b e f = ground-of q.graph old.sets old.skips old_starts old_cell_starts room.rows room.cells a b (ap (λ (x : Lent). x.sets) is) (ap (λ (x : Lent). x.skips) is) e f
 
-  -- and the first group may be opened
-  pub started_of : (named : Scheme) (old_starts old_cell_starts : List ℕ) {costs starts₁ cell_starts₁ : List ℕ} → table_count q.graph + 2 ≤ length old_starts → table_count q.graph + 2 ≤ length old_cell_starts
-      → starts₁ ≡ written old_starts 0 (starts q.graph) → cell_starts₁ ≡ written old_cell_starts 0 (cell_starts q.graph) → costs ≡ written new.costs 0 q.scans
-      → Started q (record { workers = workers; scheme = named }) turns new.sets new.estimates new.skips starts₁ cell_starts₁ (columns costs new.outers new.methods)
-  started_of named old_starts old_cell_starts {costs} a b e f h =
-      let z : Starting q old.costs old.outers old.methods (columns costs new.outers new.methods) = record {
-        costs-room = omega (arith, room.rows, one.costs);
-        outers-room = omega (arith, room.rows, one.outers);
-        methods-room = omega (arith, room.rows, one.methods);
-        costs-are = h ∙ ap (λ (x : Lent). written x.costs 0 q.scans) is;
-        outers-are = ap (λ (x : Lent). x.outers) is;
-        methods-are = ap (λ (x : Lent). x.methods) is;
-      } in
-      let lengths = length old.sets ∷ length old.estimates ∷ length old.costs ∷ length old.outers ∷ length old.methods ∷ [] in
-      let crew = crew-of q workers scheme turns lengths log passed in
-      record {
-        prepared = record {
-          sound = sound;
-          footing = ground-of q.graph old.sets old.skips old_starts old_cell_starts room.rows room.cells a b (ap (λ (x : Lent). x.sets) is) (ap (λ (x : Lent). x.skips) is) e f;
-          estimated = estimated-of q.graph old.estimates (omega (arith, room.rows, one.estimates)) (ap (λ (x : Lent). x.estimates) is);
-        };
-        work = record { sound = sound; some-worker = crew.some-worker; few-workers = crew.few-workers; turns-known = turns-of q workers scheme turns lengths log passed; serves = by-size q.shape (table_count q.graph) };
-        reach = reach-start q sound z;
-        final = final-start q sound z (record { workers = workers; scheme = named }) (by_size q.shape);
-      }
+    pub estimated : take (length (memo q.graph)) new.estimates ≡ map (estimate q.graph) (memo q.graph)
+    estimated = estimated-of q.graph old.estimates (omega (arith, room.rows, one.estimates)) (ap (λ (x : Lent). x.estimates) is)
+
+    -- and the first group may be opened
+    pub started_of : (crew : Crew) {costs : List ℕ} → new_crew workers scheme ≡ Some crew → costs ≡ written new.costs 0 q.scans → Started q crew turns (columns costs new.outers new.methods)
+    started_of crew {costs} named h =
+        let z : Starting q old.costs old.outers old.methods (columns costs new.outers new.methods) = record {
+          costs-room = omega (arith, room.rows, one.costs);
+          outers-room = omega (arith, room.rows, one.outers);
+          methods-room = omega (arith, room.rows, one.methods);
+          costs-are = h ∙ ap (λ (x : Lent). written x.costs 0 q.scans) is;
+          outers-are = ap (λ (x : Lent). x.outers) is;
+          methods-are = ap (λ (x : Lent). x.methods) is;
+        } in
+        let good = crew-of q workers scheme turns lengths log passed in
+        let e : crew.workers ≡ workers = ap (λ (c : Crew). c.workers) (same_Some _ _ (sym named ∙ crew-named good)) in
+        record {
+          work = record { sound = sound; some-worker = rw e good.some-worker; few-workers = rw e good.few-workers; turns-known = λ j l. rw e (turns-of q workers scheme turns lengths log passed j l); serves = by-size q.shape (table_count q.graph) };
+          reach = reach-start q sound z;
+          final = final-start q sound z crew (by_size q.shape);
+        }

@@ -1,23 +1,30 @@
 -- What is printed, and the state between groups and between turns.
-use Rattle.std.specs.Prelude.{◌≡◌, true, List, ℕ, ◌-◌, ◌*◌, ◌^◌, ◌≤◌, ◌<◌, length, get_or}
+use Rattle.std.specs.Prelude.{◌≡◌, Some, List, ℕ, ◌-◌, ◌*◌, ◌≤◌, ◌<◌, length}
 use Rattle.rules.specs.declared.Crew.{Crew}
 use Rattle.rules.specs.Schedule.{by_size}
-use Rattle.rules.specs.Query.{Query}
+use Rattle.rules.specs.Query.{Graph, Query}
+use Rattle.results.specs.declared.price.Rates.{Rates}
+use Rattle.rules.specs.declared.Shape.TheVariants.{Bushy}
+use Rattle.shares.specs.declared.places.Spot.{Spot}
 use Rattle.shares.specs.Shares.{few}
 use Rattle.crew.specs.declared.Worker.{Worker}
 use Rattle.turns.specs.Standing.{Columns, Reach, Final, Standing, Work}
 use Rattle.crew.specs.Workers.{worker_at}
-use Rattle.turns.specs.StartLaws.{Prepared}
+use Rattle.turns.specs.declared.setting.Setting.{Setting}
 
--- a set that can be printed table by table
-abbrev pub Printable : ℕ → Type 0
-Printable S = S < 2 ^ 32
+-- the query of a graph, its scan costs and what its methods cost
+abbrev pub query_at : Graph → List ℕ → Rates → Query
+query_at g scans r = record { graph = g; scans = scans; fixed = r.fixed.now; per_outer = r.outer.now; per_inner = r.inner.now; per_result = r.res.now; shape = Bushy }
+
+-- the query that turns go by, with its scan costs
+abbrev pub query_by : Setting → List ℕ → Query
+query_by s scans = query_at s.footing.graph.now scans s.rates
 
 -- a worker whose share and place can be printed
 pub record Shown (sets : List ℕ) (v : Worker) : Type 0 where
   pub share : v.share.from ≤ v.share.to
-  pub driving : v.place.left ≡ true → (v.place.row < length sets) × Printable (get_or sets v.place.row 0)
-  pub inner : v.place.left ≡ true → (v.place.inner < length sets) × Printable (get_or sets v.place.inner 0)
+  pub driving : (s : Spot) → v.place.pair ≡ Some s → s.row < length sets
+  pub inner : (s : Spot) → v.place.pair ≡ Some s → s.inner < length sets
 
 -- group k is to be opened
 pub record Between (q : Query) (crew : Crew) (k : ℕ) (workers : List Worker) (c : Columns) : Type 0 where
@@ -31,8 +38,7 @@ pub record Within (q : Query) (crew : Crew) (k : ℕ) (workers : List Worker) (c
   pub standing : Standing q crew (by_size q.shape) k workers c
 
 -- all is laid out and checked: the first group may be opened
-pub record Started (q : Query) (crew : Crew) (turns sets estimates cells starts cell_starts : List ℕ) (c : Columns) : Type 0 where
-  pub prepared : Prepared q sets estimates cells starts cell_starts
+pub record Started (q : Query) (crew : Crew) (turns : List ℕ) (c : Columns) : Type 0 where
   pub work : Work q crew (by_size q.shape) turns
   pub reach : Reach q.graph c
   pub final : Final q crew (by_size q.shape) 1 c

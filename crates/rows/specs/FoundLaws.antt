@@ -6,8 +6,8 @@ use Rattle.std.proofs.Math.Bool.{cond}
 use mathlib.Core.List.{List, [], ◌∷◌, ◌++◌}
 use Rattle.std.proofs.Math.Decide.{dec_lt, ℕ_discrete}
 use native.Mathlib.Omega.{arith}
-use Rattle.std.specs.Int.Bits.{bit_or}
 use borrow.Author.Tests.{eq-eqb, ne_eqb, lt-ltb, le-ltb}
+use mir.Val.{bool_byte}
 use Rattle.rules.specs.Lists.{is_yes}
 use Rattle.rules.specs.Sets.{single}
 use Rattle.rules.specs.Query.{Graph, table_count, at}
@@ -15,7 +15,8 @@ use Rattle.rules.specs.Rows.{rows_of}
 use Rattle.rules.specs.laws.Bools.{true-or-false}
 use Rattle.rules.specs.laws.Decide.{connected?}
 use Rattle.graph.specs.Walk.{walk}
-use Rattle.graph.specs.Node.{Node}
+use Rattle.graph.specs.declared.chosen.Chosen.{Chosen}
+use Rattle.graph.specs.Node.{taking, Node}
 use Rattle.graph.specs.NodeLaws.{node-with, node-without}
 use Rattle.rows.specs.Tally.{found, here, Tallied, Counting}
 use Rattle.rows.specs.WalkLaws.{walk-few, walk-hit, walk-miss, walk_step, rows_start}
@@ -69,6 +70,11 @@ module _ (g : Graph) (n t chosen x z : ℕ) (row : Bool) (l : t ≤ n) (e : x �
       ∙ ap (λ (k : ℕ). length (here row (chosen + x) z s) + k) (length-append (found g s (z + 1) (t + 1) (n + 1 - (t + 1)) (chosen + x)) (found g s z (t + 1) (n + 1 - (t + 1)) chosen))
 
 -- ---- counting
+-- one more where there is a row
+pub one-more : (row : Bool) (n : ℕ) {b : ℕ} → b ≡ bool_byte row → n + b ≡ cond row (n + 1) n
+one-more true n e = omega arith
+one-more false n e = omega arith
+
 -- the count of one size goes up where there is a row
 pub count-here : (row : Bool) (with z : ℕ) (l : List ℕ) {v : ℕ} → z + 1 < length l → v ≡ cond row (get_or l (z + 1) 0 + 1) (get_or l (z + 1) 0) → (s : ℕ) → get_or (set l (z + 1) v) s 0 ≡ get_or l s 0 + length (here row with z s)
 unfolding here
@@ -89,25 +95,25 @@ module _ {g : Graph} {n t chosen z : ℕ} where
     sizes = λ s k. omega (arith, first.sizes s k, second.sizes s k, count-here row (chosen + x) z old b w s, found-length g n t chosen x z row l e r s);
   }
 
-module _ {near : List ℕ} {n t chosen around : ℕ} {joined : Bool} {z : ℕ} {counts : List ℕ} (c : Counting near n t chosen around joined z counts) (x : ℕ) (row : Bool) (l : t ≤ n) (e : x ≡ single t)
-    (r : (g : Graph) → Node g near n t chosen around joined → row ≡ is_yes (connected? g (chosen + x))) {v : ℕ} (w : v ≡ cond row (get_or counts (z + 1) 0 + 1) (get_or counts (z + 1) 0)) where
-  inside-counts : z + 1 < length counts
+module _ {near : List ℕ} {n t : ℕ} {chosen : Chosen} {counts : List ℕ} (c : Counting near n t chosen counts) (x : ℕ) (row : Bool) (l : t ≤ n) (e : x ≡ single t)
+    (r : (g : Graph) → Node g near n t chosen → row ≡ is_yes (connected? g (chosen.set + x))) {v : ℕ} (w : v ≡ cond row (get_or counts (chosen.size + 1) 0 + 1) (get_or counts (chosen.size + 1) 0)) where
+  inside-counts : chosen.size + 1 < length counts
   inside-counts = omega (arith, c.smaller, c.long)
 
-  pub counting-with : Counting near n (t + 1) (chosen + x) (bit_or around (at near t)) row (z + 1) (set counts (z + 1) v)
+  pub counting-with : Counting near n (t + 1) (taking chosen x (at near t) row) (set counts (chosen.size + 1) v)
   counting-with = record {
     g = c.g;
     node = node-with c.node x l e row (r c.g c.node);
     smaller = omega (arith, c.smaller);
-    long = omega (arith, c.long, length-set counts (z + 1) v);
-    room = λ s k. omega (arith, c.room s k, count-here row (chosen + x) z counts inside-counts w s, found-length c.g n t chosen x z row l e (r c.g c.node) s);
+    long = omega (arith, c.long, length-set counts (chosen.size + 1) v);
+    room = λ s k. omega (arith, c.room s k, count-here row (chosen.set + x) chosen.size counts inside-counts w s, found-length c.g n t chosen.set x chosen.size row l e (r c.g c.node) s);
   }
 
-  pub counting-without : {mid : List ℕ} → length mid ≡ length (set counts (z + 1) v) → ((g : Graph) → Node g near n (t + 1) (chosen + x) (bit_or around (at near t)) row → Tallied g n (t + 1) (chosen + x) (z + 1) (set counts (z + 1) v) mid) → Counting near n (t + 1) chosen around joined z mid
+  pub counting-without : {mid : List ℕ} → length mid ≡ length (set counts (chosen.size + 1) v) → ((g : Graph) → Node g near n (t + 1) (taking chosen x (at near t) row) → Tallied g n (t + 1) (chosen.set + x) (chosen.size + 1) (set counts (chosen.size + 1) v) mid) → Counting near n (t + 1) chosen mid
   counting-without {mid} i h = record {
     g = c.g;
     node = node-without c.node l;
     smaller = omega (arith, c.smaller);
-    long = omega (arith, c.long, length-set counts (z + 1) v);
-    room = λ s k. omega (arith, c.room s k, count-here row (chosen + x) z counts inside-counts w s, found-length c.g n t chosen x z row l e (r c.g c.node) s, (h c.g (node-with c.node x l e row (r c.g c.node))).sizes s k);
+    long = omega (arith, c.long, length-set counts (chosen.size + 1) v);
+    room = λ s k. omega (arith, c.room s k, count-here row (chosen.set + x) chosen.size counts inside-counts w s, found-length c.g n t chosen.set x chosen.size row l e (r c.g c.node) s, (h c.g (node-with c.node x l e row (r c.g c.node))).sizes s k);
   }

@@ -3,6 +3,7 @@ use Rattle.std.specs.Prelude.{◌≡◌, Bool, cond, List, [], ◌∷◌, ℕ, �
 use Rattle.rules.specs.Query.{Graph, table_count}
 use Rattle.rules.specs.Rows.{rows_of}
 use Rattle.graph.specs.Walk.{walk}
+use Rattle.graph.specs.declared.chosen.Chosen.{Chosen}
 use Rattle.graph.specs.Node.{Node}
 
 -- the rows of size s that a node finds, where the chosen tables count as z: they have more tables than the chosen ones
@@ -18,12 +19,12 @@ pub record Tallied (g : Graph) (n t chosen z : ℕ) (old new : List ℕ) : Type 
   pub sizes : (s : ℕ) → s ≤ n → get_or new s 0 ≡ get_or old s 0 + length (found g s z t (n + 1 - t) chosen)
 
 -- a node that counts: some graph's node, and no count overflows
-pub record Counting (near : List ℕ) (n t chosen around : ℕ) (joined : Bool) (z : ℕ) (counts : List ℕ) : Type 0 where
+pub record Counting (near : List ℕ) (n t : ℕ) (chosen : Chosen) (counts : List ℕ) : Type 0 where
   pub g : Graph
-  pub node : Node g near n t chosen around joined
-  pub smaller : z < t
+  pub node : Node g near n t chosen
+  pub smaller : chosen.size < t
   pub long : n < length counts
-  pub room : (s : ℕ) → s ≤ n → get_or counts s 0 + length (found g s z t (n + 1 - t) chosen) ≤ 65536
+  pub room : (s : ℕ) → s ≤ n → get_or counts s 0 + length (found g s chosen.size t (n + 1 - t) chosen.set) ≤ 65536
 
 -- how many rows of each size there are: size k's number stands at k
 pub record Tally (g : Graph) (counts : List ℕ) : Type 0 where

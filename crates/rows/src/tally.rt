@@ -1,107 +1,81 @@
 // How many rows of each size the memo has: one walk counts them all.
 ghost use Rattle.std.specs.Prelude.{◌≡◌, cond, ◌+◌, ◌≤◌, length};
-ghost use Rattle.rules.specs.Query.{Graph, graph_of};
-ghost use Rattle.rules.specs.Checked.{GoodGraph};
+ghost use Rattle.rules.specs.Query.{Graph};
 ghost use Rattle.rules.specs.Rows.{memo};
 ghost use Rattle.rules.specs.Skips.{skips};
 ghost use Rattle.graph.specs.Node.{Node};
-ghost use Rattle.rows.specs.Tally.{Tallied, Counting, Tally};
+ghost use Rattle.rows.specs.Tally.{Tallied, Counting, Tally as IsTally};
 
-use graph::near::{grows, neighbours, stuck};
+use graph::chosen::{Chosen, NONE};
+use graph::near::Neighbours;
+use query::graph::Graph;
 use sets::single;
 
-// Room for a number of each size: sizes 0 to N, of at most 16 tables.
+// Room for a number of each size: sizes 0 to N, of at most 16 tables. Arrays here and above are fixed: the library has no heap.
 pub const SIZES: usize = 17;
 
-// One more where there is a row.
-fn counted(row: bool, count: usize) -> usize
-    requires { count ≤ 65536 }
-    ensures { result ≡ cond row (count + 1) count }
-{
-    if row {
-        return count + 1;
-    }
-    count
+// A graph with how many rows of each size its memo has: size k's number stands at k.
+#[derive(Clone, Copy)]
+pub struct Tally<'a> {
+    pub graph: &'a Graph<'a>,
+    pub counts: &'a [usize],
+    ghost good: { IsTally graph.now counts.now },
 }
 
-// Counts, by size, the connected sets that add some of the tables from `t` on to the chosen ones, `size` tables: table `t` is taken, then left.
-fn tally_from(
-    near: &[u64; 16],
-    tables: u64,
-    t: u64,
-    chosen: u64,
-    around: u64,
-    joined: bool,
-    size: usize,
-    counts: &mut [usize],
-)
-    requires { Counting near.now tables t chosen around joined size counts.old }
-    ensures { (g : Graph) → Node g near.now tables t chosen around joined → Tallied g tables t chosen size counts.old counts.new }
-{
-    if t > tables {
-        return;
+impl Tally<'_> {
+    // How many rows there are.
+    pub fn rows(&self) -> usize
+        ensures { result ≡ length (memo self.now.graph.now) }
+    {
+        let graph = self.graph;
+        self.counts[1..=graph.rows.len()].iter().sum()
     }
-    let bit = single(t);
-    let rest = single(tables + 1) - bit;
-    if stuck(near, chosen, around, joined, rest) {
-        return;
+
+    // How many cells the skip vectors have: one for each table of each row.
+    pub fn cells(&self) -> usize
+        ensures { result ≡ length (skips self.now.graph.now) }
+    {
+        let graph = self.graph;
+        let mut sum = 0usize;
+        for k in 0..graph.rows.len() {
+            sum += (k + 1) * self.counts[k + 1];
+        }
+        sum
     }
-    let row = grows(near, chosen, around, joined, bit);
-    let with = chosen + bit;
-    let wider = around | near[(t - 1) as usize];
-    let after = t + 1;
-    let larger = size + 1;
-    counts[larger] = counted(row, counts[larger]);
-    tally_from(near, tables, after, with, wider, row, larger, counts);
-    tally_from(near, tables, after, chosen, around, joined, size, counts);
 }
 
-// How many rows of each size there are: size k's number stands at k.
-pub fn tally(rows: &[u64], left: &[u64], right: &[u64], divisors: &[u64]) -> [usize; SIZES]
-    requires { GoodGraph (graph_of rows.now left.now right.now divisors.now) }
-    ensures counts { Tally (graph_of rows.now left.now right.now divisors.now) result }
+// Counts the rows of each size.
+pub fn count_rows(graph: &Graph) -> [usize; SIZES]
+    ensures counts { IsTally graph.now result }
     ensures long { length result ≡ 17 }
 {
-    let near = neighbours(rows, left, right, divisors);
+    let near = Neighbours::new(graph);
     let mut counts = [0usize; SIZES];
-    tally_from(&near, rows.len() as u64, 1, 0, 0, false, 0, &mut counts);
+    tally_from(&near, 1, NONE, &mut counts);
     counts
 }
 
-// How many rows the memo has, by its tally.
-pub fn all_rows(
-    rows: &[u64],
-    left: &[u64],
-    right: &[u64],
-    divisors: &[u64],
-    counts: &[usize],
-) -> usize
-    requires good_graph { GoodGraph (graph_of rows.now left.now right.now divisors.now) }
-    requires tally { Tally (graph_of rows.now left.now right.now divisors.now) counts.now }
-    ensures { result ≡ length (memo (graph_of rows.now left.now right.now divisors.now)) }
+// Counts, by size, the connected sets that add some of the tables from `t` on to the chosen ones: table `t` is taken, then left.
+fn tally_from(near: &Neighbours, t: u64, chosen: Chosen, counts: &mut [usize])
+    requires { Counting near.now.of near.now.tables t chosen counts.old }
+    ensures { (g : Graph) → Node g near.now.of near.now.tables t chosen → Tallied g near.now.tables t chosen.set chosen.size counts.old counts.new }
 {
-    let mut sum = 0usize;
-    for k in 0..rows.len() {
-        sum += counts[k + 1];
+    if t > near.tables {
+        return;
     }
-    sum
-}
-
-// How many cells the skip vectors have, by the tally: one for each table of each row.
-pub fn all_cells(
-    rows: &[u64],
-    left: &[u64],
-    right: &[u64],
-    divisors: &[u64],
-    counts: &[usize],
-) -> usize
-    requires good_graph { GoodGraph (graph_of rows.now left.now right.now divisors.now) }
-    requires tally { Tally (graph_of rows.now left.now right.now divisors.now) counts.now }
-    ensures { result ≡ length (skips (graph_of rows.now left.now right.now divisors.now)) }
-{
-    let mut sum = 0usize;
-    for k in 0..rows.len() {
-        sum += (k + 1) * counts[k + 1];
+    let bit = single(t);
+    let rest = single(near.tables + 1) - bit;
+    if near.stuck(chosen, rest) {
+        return;
     }
-    sum
+    let row = near.grows(chosen, bit);
+    let with = Chosen {
+        set: chosen.set + bit,
+        size: chosen.size + 1,
+        around: chosen.around | near.of[(t - 1) as usize],
+        joined: row,
+    };
+    counts[with.size] += usize::from(row);
+    tally_from(near, t + 1, with, counts);
+    tally_from(near, t + 1, chosen, counts);
 }

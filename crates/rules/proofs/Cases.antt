@@ -10,7 +10,7 @@ use Rattle.rules.specs.Offers.{Choice}
 use Rattle.rules.specs.Rows.{Before}
 use Rattle.rules.specs.Skips.{vectors}
 use Rattle.rules.specs.Shares.{share}
-use Rattle.rules.specs.declared.Verdict.{Verdict}
+use Rattle.rules.specs.Verdict.{Verdict}
 use Rattle.rules.specs.Refusals.{Memory, Input, verdict}
 use Rattle.rules.specs.Answers.{Row, schedule_of}
 use Rattle.rules.specs.laws.Standing.{offers_below, best_at}

@@ -1,7 +1,6 @@
 -- What planning promises: `Planned`, the one relation between an input and its outcome.
 use Rattle.std.specs.Prelude.{◌≡◌, List, [], ◌∷◌, map, ℕ, zero, suc, ◌-◌, ◌≤◌, ◌<◌, length, get_or, take, drop}
 use Rattle.rules.specs.declared.Crew.{Crew}
-use Rattle.rules.specs.declared.NewCrew.TheVariants.{Good}
 use Rattle.rules.specs.Limits.{max_workers}
 use Rattle.rules.specs.Kinds.{new_crew}
 use Rattle.rules.specs.Lists.{over}
@@ -16,8 +15,9 @@ use Rattle.rules.specs.Shares.{Numbered, queue}
 use Rattle.rules.specs.Turns.{Hand, Groups, only}
 use Rattle.rules.specs.Schedule.{Schedule, by_size}
 use Rattle.rules.specs.Log.{pair_of, Stands}
-use Rattle.rules.specs.declared.Verdict.{Verdict}
+use Rattle.rules.specs.Verdict.{Verdict}
 use Rattle.rules.specs.Refusals.{Memory, Input, verdict}
+use Rattle.std.specs.Prelude.{Some}
 
 -- "The answer gives best cost, number of memo rows, of skip cells, of joinable pairs, and eight per-worker pair counts"
 pub record Answer : Type 0 where
@@ -84,7 +84,7 @@ queues_of i crew k w = queue i.query.graph crew (schedule_of i k) w
 -- demand 3: the turns in a row hand h, from the first group to the last
 pub record InTurn (i : Input) (h : List (Hand Numbered)) : Type 0 where
   pub crew : Crew
-  pub named : new_crew i.workers i.scheme ≡ Good crew
+  pub named : new_crew i.workers i.scheme ≡ Some crew
   pub groups : Groups crew.workers (queues_of i crew) 1 (table_count i.query.graph - 1) i.turns h
 
 -- "It holds the first pairs that fit": as many as the log has room for

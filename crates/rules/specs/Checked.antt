@@ -1,7 +1,6 @@
 -- What an input that passes the checks is like: the facts behind "A plan is given exactly for the queries" that 01 accepts.
 use Rattle.std.specs.Prelude.{◌≡◌, ℕ, ◌≤◌, ◌<◌, length, get_or}
 use Rattle.rules.specs.declared.Scheme.{Scheme}
-use Rattle.rules.specs.declared.NewScheme.TheVariants.{Good}
 use Rattle.rules.specs.Limits.{max_tables, max_rows, max_scan, max_divisor, max_methods, max_fixed, max_coefficient, max_workers}
 use Rattle.rules.specs.Kinds.{scheme_of}
 use Rattle.rules.specs.Sets.{full}
@@ -10,6 +9,7 @@ use Rattle.rules.specs.Connected.{Connected}
 use Rattle.rules.specs.Rows.{memo}
 use Rattle.rules.specs.Skips.{skips}
 use Rattle.rules.specs.Refusals.{Memory, Input}
+use Rattle.std.specs.Prelude.{Some}
 
 -- not 5: method i, from 0
 pub record MethodGood (q : Query) (i : ℕ) : Type 0 where
@@ -66,7 +66,7 @@ pub record CrewGood (workers scheme : ℕ) : Type 0 where
   pub some-worker : 1 ≤ workers
   pub few-workers : workers ≤ max_workers
   pub named : Scheme
-  pub is-named : scheme_of scheme ≡ Good named
+  pub is-named : scheme_of scheme ≡ Some named
 
 -- an input that passes 1 to 12
 pub record Checked (i : Input) : Type 0 where

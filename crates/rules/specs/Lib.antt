@@ -15,6 +15,7 @@ pub mod Candidates
 pub mod Shares
 pub mod Turns
 pub mod Log
+pub mod Verdict
 pub mod Refusals
 pub mod Checked
 pub mod Answers

@@ -1,8 +1,7 @@
 -- Bytes of a text as lines, fields and numbers: 01's "Text in, text out".
 use Rattle.std.specs.Prelude.{Bool, true, cond, ◌&&◌, not, List, [], ◌∷◌, ℕ, ◌+◌, ◌*◌, ◌-◌, eqb, ltb, leb, length, get_or}
-use Rattle.rules.specs.declared.forms.Number.{Number}
-use Rattle.rules.specs.declared.forms.Number.TheVariants.{Value, Bad}
 use Rattle.rules.specs.Limits.{in_range, max_digits, max_number}
+use Rattle.std.specs.Prelude.{None, Option, Some}
 
 -- the byte that parts the fields of a line
 abbrev pub tab : ℕ
@@ -71,5 +70,5 @@ unfoldable pub is_number : List ℕ → Bool
 is_number s = in_range 1 max_digits (length s) && (not (zero_led s) && (all_digits s && leb (value_of s) max_number))
 
 -- what a field holds as a number
-abbrev pub number_of : List ℕ → Number
-number_of s = cond (is_number s) (Value (value_of s)) Bad
+abbrev pub number_of : List ℕ → Option ℕ
+number_of s = cond (is_number s) (Some (value_of s)) None

@@ -1,29 +1,28 @@
 -- Text in: which lines are refused, and what query a good text means.
 use Rattle.std.specs.Prelude.{Bool, true, false, cond, ◌&&◌, ◌||◌, not, List, [], ◌∷◌, ◌++◌, map, ℕ, suc, ◌-◌, eqb, ltb, leb, length, get_or, drop}
-use Rattle.rules.specs.declared.Verdict.{Verdict}
+use Rattle.rules.specs.Verdict.{Verdict, none}
 use Rattle.rules.specs.declared.forms.Kind.{Kind}
 use Rattle.rules.specs.declared.forms.Kind.TheVariants.{Table, Method, Edge, Crew}
-use Rattle.rules.specs.declared.forms.Letter.{Letter}
-use Rattle.rules.specs.declared.forms.Letter.TheVariants.{Known, Unknown}
 use Rattle.rules.specs.Limits.{max_tables, max_methods, max_edge_lines, max_bytes}
 use Rattle.rules.specs.declared.Shape.TheVariants.{Bushy}
 use Rattle.rules.specs.Query.{Query, table_count, edge_count, method_count}
-use Rattle.rules.specs.Refusals.{none}
 use Rattle.rules.specs.Lines.{newline, lines, fields, is_number, value_of}
+use Rattle.std.specs.Prelude.{None, Option, Some}
+use Rattle.rules.specs.declared.forms.Form.{Form}
 
 -- a kind of line with so many numbers
-abbrev pub known : Kind → ℕ → Letter
-known kind numbers = Known (record { kind = kind; numbers = numbers })
+abbrev pub known : Kind → ℕ → Option Form
+known kind numbers = Some (record { kind = kind; numbers = numbers })
 
 -- "`T` number rows scan; `M` fixed outer inner result; `E` table table divisor; `W` workers scheme", by the letter's byte
-unfoldable pub letter_of : ℕ → Letter
-letter_of b = cond (eqb b 84) (known Table 3) (cond (eqb b 77) (known Method 4) (cond (eqb b 69) (known Edge 3) (cond (eqb b 87) (known Crew 2) Unknown)))
+unfoldable pub letter_of : ℕ → Option Form
+letter_of b = cond (eqb b 84) (known Table 3) (cond (eqb b 77) (known Method 4) (cond (eqb b 69) (known Edge 3) (cond (eqb b 87) (known Crew 2) None)))
 
 -- "What a line is follows from its first field": one byte, and its letter
-abbrev pub form_of : List ℕ → Letter
-form_of [] = Unknown
+abbrev pub form_of : List ℕ → Option Form
+form_of [] = None
 form_of (b ∷ []) = letter_of b
-form_of (b ∷ c ∷ s) = Unknown
+form_of (b ∷ c ∷ s) = None
 
 -- "T lines first ..; then M, E, and one W.": where a kind stands in this order, from 1
 abbrev pub stage : Kind → ℕ
@@ -60,9 +59,9 @@ excess Edge tables methods edges = leb max_edge_lines edges
 excess Crew tables methods edges = false
 
 -- the refusal of a line by what its letter says, 0 for none: "the first that applies in this order: 21 .. 22 .. 23 .. 25"
-unfoldable pub line_number_as : Letter → (latest tables methods edges : ℕ) → List ℕ → ℕ
-line_number_as Unknown latest tables methods edges line = 21
-line_number_as (Known f) latest tables methods edges line =
+unfoldable pub line_number_as : Option Form → (latest tables methods edges : ℕ) → List ℕ → ℕ
+line_number_as None latest tables methods edges line = 21
+line_number_as (Some f) latest tables methods edges line =
     cond (not (eqb (length (fields line)) (suc f.numbers))) 21
     (cond (not (all_numbers (number_fields line))) 22
     (cond (misplaced f.kind latest tables (get_or (values line) 0 0)) 23
@@ -87,7 +86,7 @@ nothing = record {
 }
 
 -- the form of a line
-abbrev pub line_form : List ℕ → Letter
+abbrev pub line_form : List ℕ → Option Form
 line_form line = form_of (get_or (fields line) 0 [])
 
 -- the refusal of the next line, 0 for none
@@ -145,9 +144,9 @@ with_record Edge v s = record {
 with_record Crew v s = record { query = s.query; workers = get_or v 0 0; scheme = get_or v 1 0; latest = stage Crew }
 
 -- the same by what the line's letter says
-abbrev pub with_line_as : Letter → List ℕ → Read → Read
-with_line_as Unknown line s = s
-with_line_as (Known f) line s = with_record f.kind (values line) s
+abbrev pub with_line_as : Option Form → List ℕ → Read → Read
+with_line_as None line s = s
+with_line_as (Some f) line s = with_record f.kind (values line) s
 
 -- one good line more
 abbrev pub with_line : Read → List ℕ → Read

@@ -2,9 +2,7 @@
 use Rattle.std.specs.Prelude.{Bool, true, false, cond, ◌&&◌, ◌||◌, not, List, [], ◌∷◌, ◌++◌, ℕ, zero, suc, eqb, ltb, length, get_or}
 use Rattle.rules.specs.Limits.{tables_fit, methods_fit, table_fits, method_fits}
 use Rattle.rules.specs.Kinds.{new_edge, edge_number, new_crew}
-use Rattle.rules.specs.declared.Verdict.{Verdict}
-use Rattle.rules.specs.declared.NewCrew.{NewCrew}
-use Rattle.rules.specs.declared.NewCrew.TheVariants.{Good, Refused}
+use Rattle.rules.specs.Verdict.{Verdict, none}
 use Rattle.rules.specs.Lists.{is_yes}
 use Rattle.rules.specs.Sets.{full}
 use Rattle.rules.specs.Query.{Graph, Query, table_count, edge_count, method_count}
@@ -12,6 +10,8 @@ use Rattle.rules.specs.Estimate.{joins_at}
 use Rattle.rules.specs.Rows.{memo}
 use Rattle.rules.specs.Skips.{skips}
 use Rattle.rules.specs.laws.Decide.{connected?}
+use Rattle.std.specs.Prelude.{None, Option, Some}
+use Rattle.rules.specs.declared.Crew.{Crew}
 
 -- the memory that a caller lends: memo, skip cells and log, each column a list
 pub record Memory : Type 0 where
@@ -33,10 +33,6 @@ pub record Input : Type 0 where
   pub scheme : ℕ
   pub turns : List ℕ
   pub lent : Memory
-
--- no refusal: number 0. "Place: the first such record or turn, counted from 0, else 0"
-abbrev pub none : Verdict
-none = record { number = 0; place = 0 }
 
 -- refusal `number` at place 0, where the test says so
 unfoldable pub refuse : ℕ → Bool → Verdict
@@ -108,9 +104,9 @@ unfoldable pub bad_edge : Graph → ℕ → ℕ
 bad_edge g i = edge_or (edge_number (new_edge (table_count g) (get_or g.left i 0) (get_or g.right i 0) (get_or g.divisors i 0))) (repeats g i)
 
 -- refusal 11: "workers or scheme out of range"
-unfoldable pub is_refused : NewCrew → Bool
-is_refused (Good c) = false
-is_refused Refused = true
+unfoldable pub is_refused : Option Crew → Bool
+is_refused (Some c) = false
+is_refused None = true
 
 -- refusal 12: "a turn names a worker not below the count"
 unfoldable pub bad_turn : ℕ → List ℕ → ℕ → ℕ

@@ -1,6 +1,6 @@
 -- What the text entry promises: `Written`, the one relation between a text, a lent buffer and what is returned.
 use Rattle.std.specs.Prelude.{◌≡◌, List, [], ◌∷◌, ◌++◌, ℕ, ◌≤◌, ◌<◌, length, replicate}
-use Rattle.rules.specs.declared.Verdict.{Verdict}
+use Rattle.rules.specs.Verdict.{Verdict}
 use Rattle.rules.specs.Limits.{text_rows, text_cells, answer_room}
 use Rattle.rules.specs.Lists.{over}
 use Rattle.rules.specs.Sets.{full}

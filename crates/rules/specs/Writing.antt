@@ -1,6 +1,6 @@
 -- Text out: the bytes of numbers, sets and lines of the answer.
 use Rattle.std.specs.Prelude.{cond, List, [], ◌∷◌, ◌++◌, map, ℕ, zero, suc, ◌+◌, ◌/◌, ◌%◌, ltb}
-use Rattle.rules.specs.declared.Verdict.{Verdict}
+use Rattle.rules.specs.Verdict.{Verdict}
 use Rattle.rules.specs.Sets.{tables}
 use Rattle.rules.specs.Query.{Query, table_count}
 use Rattle.rules.specs.Estimate.{estimate}

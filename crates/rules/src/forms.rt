@@ -1,7 +1,7 @@
 // What the text of document 01 is made of: kinds of lines, and numbers.
 
 // "T lines first ..; then M, E, and one W."
-#[derive(Clone, Copy)]
+#[derive(Clone, Copy, Debug, PartialEq, Eq)]
 pub enum Kind {
     Table,
     Method,
@@ -16,21 +16,7 @@ pub struct Form {
     pub numbers: usize,
 }
 
-#[derive(Clone, Copy)]
-pub enum Letter {
-    Known(Form),
-    Unknown,
-}
-
 // "A number is 1 to 10 digits, no leading zero unless it is 0, at most 1,000,000,000."
-#[derive(Clone, Copy)]
-pub enum Number {
-    Value(u64),
-    Bad,
-}
+pub const MAX_DIGITS: usize = 10;
 
-impl Number {
-    pub const MAX_DIGITS: usize = 10;
-
-    pub const MAX: u64 = 1_000_000_000;
-}
+pub const MAX_NUMBER: u64 = 1_000_000_000;

@@ -6,30 +6,22 @@ ghost use Rattle.std.specs.Prelude.{◌≡◌, ◌≤◌};
 ghost use Rattle.rules.specs.Limits.{max_tables, in_range, tables_fit, methods_fit};
 ghost use Rattle.rules.specs.declared.Shape.TheVariants.{Bushy};
 ghost use Rattle.rules.specs.Schedule.{by_size};
-ghost use Rattle.rules.specs.Kinds.{new_table, new_edge, new_method, new_crew, scheme_of, scheme_number};
+ghost use Rattle.rules.specs.Kinds.{new_table, new_edge, new_method, new_crew, Names, scheme_number};
 
 pub mod forms;
+pub mod refusal;
 
 // Low to high, both included.
 fn in_range(low: u64, high: u64, n: u64) -> bool
     ensures { result ≡ in_range low high n }
 {
-    if low <= n {
-        return n <= high;
-    }
-    false
+    (low..=high).contains(&n)
 }
 
 #[derive(Clone, Copy)]
 pub struct Table {
     pub rows: u64,
     pub scan: u64,
-}
-
-#[derive(Clone, Copy)]
-pub enum NewTable {
-    Good(Table),
-    Over,
 }
 
 impl Table {
@@ -39,18 +31,14 @@ impl Table {
 
     pub const MAX_SCAN: u64 = 1_000_000_000;
 
-    pub fn new(rows: u64, scan: u64) -> NewTable
+    // None where one of the two is over its limit.
+    pub fn new(rows: u64, scan: u64) -> Option<Table>
         ensures { result ≡ new_table rows scan }
     {
-        if rows <= Table::MAX_ROWS {
-            if scan <= Table::MAX_SCAN {
-                return NewTable::Good(Table {
-                    rows: rows,
-                    scan: scan,
-                });
-            }
+        if rows > Table::MAX_ROWS || scan > Table::MAX_SCAN {
+            return None;
         }
-        NewTable::Over
+        Some(Table { rows, scan })
     }
 
     // A query may have this many tables.
@@ -69,9 +57,8 @@ pub struct Edge {
 }
 
 // What is wrong with an edge, in the order of refusals 6, 7 and 8.
-#[derive(Clone, Copy)]
-pub enum NewEdge {
-    Good(Edge),
+#[derive(Clone, Copy, Debug, PartialEq, Eq)]
+pub enum EdgeFault {
     Outside,
     Itself,
     Divisor,
@@ -84,25 +71,22 @@ impl Edge {
     pub const MAX_LINES: u64 = 120;
 
     // An edge of a query of `count` tables.
-    pub fn new(count: u64, left: u64, right: u64, divisor: u64) -> NewEdge
+    pub fn new(count: u64, left: u64, right: u64, divisor: u64) -> Result<Edge, EdgeFault>
         ensures { result ≡ new_edge count left right divisor }
     {
-        if !in_range(1, count, left) {
-            return NewEdge::Outside;
-        }
-        if !in_range(1, count, right) {
-            return NewEdge::Outside;
+        if !in_range(1, count, left) || !in_range(1, count, right) {
+            return Err(EdgeFault::Outside);
         }
         if left == right {
-            return NewEdge::Itself;
+            return Err(EdgeFault::Itself);
         }
         if !in_range(1, Edge::MAX_DIVISOR, divisor) {
-            return NewEdge::Divisor;
+            return Err(EdgeFault::Divisor);
         }
-        NewEdge::Good(Edge {
-            left: left,
-            right: right,
-            divisor: divisor,
+        Ok(Edge {
+            left,
+            right,
+            divisor,
         })
     }
 }
@@ -115,12 +99,6 @@ pub struct Method {
     pub result: u64,
 }
 
-#[derive(Clone, Copy)]
-pub enum NewMethod {
-    Good(Method),
-    Over,
-}
-
 impl Method {
     pub const MAX_COUNT: u64 = 4;
 
@@ -128,25 +106,21 @@ impl Method {
 
     pub const MAX_COEFFICIENT: u64 = 1_000;
 
-    pub fn new(fixed: u64, outer: u64, inner: u64, res: u64) -> NewMethod
+    // None where one of the four is over its limit.
+    pub fn new(fixed: u64, outer: u64, inner: u64, res: u64) -> Option<Method>
         ensures { result ≡ new_method fixed outer inner res }
     {
-        if Method::MAX_FIXED < fixed {
-            return NewMethod::Over;
+        if fixed > Method::MAX_FIXED
+            || outer > Method::MAX_COEFFICIENT
+            || inner > Method::MAX_COEFFICIENT
+            || res > Method::MAX_COEFFICIENT
+        {
+            return None;
         }
-        if Method::MAX_COEFFICIENT < outer {
-            return NewMethod::Over;
-        }
-        if Method::MAX_COEFFICIENT < inner {
-            return NewMethod::Over;
-        }
-        if Method::MAX_COEFFICIENT < res {
-            return NewMethod::Over;
-        }
-        NewMethod::Good(Method {
-            fixed: fixed,
-            outer: outer,
-            inner: inner,
+        Some(Method {
+            fixed,
+            outer,
+            inner,
             result: res,
         })
     }
@@ -160,7 +134,7 @@ impl Method {
 }
 
 // The four ways of sharing candidates among workers.
-#[derive(Clone, Copy)]
+#[derive(Clone, Copy, Debug, PartialEq, Eq)]
 pub enum Scheme {
     CutCandidates,
     CutRows,
@@ -168,29 +142,31 @@ pub enum Scheme {
     DealInner,
 }
 
-#[derive(Clone, Copy)]
-pub enum NewScheme {
-    Good(Scheme),
-    Unknown,
-}
+// A number that names no scheme.
+#[derive(Clone, Copy, Debug, PartialEq, Eq)]
+pub struct UnknownScheme(pub u64);
 
-impl Scheme {
-    pub fn from_number(number: u64) -> NewScheme
-        ensures { result ≡ scheme_of number }
-    {
+impl TryFrom<u64> for Scheme {
+    type Error = UnknownScheme;
+
+    ghost try_from_gives = { Names };
+
+    fn try_from(number: u64) -> Result<Scheme, UnknownScheme> {
         match number {
-            1 => NewScheme::Good(Scheme::CutCandidates),
-            2 => NewScheme::Good(Scheme::CutRows),
-            3 => NewScheme::Good(Scheme::DealRows),
-            4 => NewScheme::Good(Scheme::DealInner),
-            _ => NewScheme::Unknown,
+            1 => Ok(Scheme::CutCandidates),
+            2 => Ok(Scheme::CutRows),
+            3 => Ok(Scheme::DealRows),
+            4 => Ok(Scheme::DealInner),
+            _ => Err(UnknownScheme(number)),
         }
     }
+}
 
-    pub fn number(self) -> u64
-        ensures { result ≡ scheme_number self }
-    {
-        match self {
+impl From<Scheme> for u64 {
+    ghost from_gives = { λ scheme number. number ≡ scheme_number scheme };
+
+    fn from(scheme: Scheme) -> u64 {
+        match scheme {
             Scheme::CutCandidates => 1,
             Scheme::CutRows => 2,
             Scheme::DealRows => 3,
@@ -206,27 +182,19 @@ pub struct Crew {
     pub scheme: Scheme,
 }
 
-#[derive(Clone, Copy)]
-pub enum NewCrew {
-    Good(Crew),
-    Refused,
-}
-
 impl Crew {
     pub const MAX_WORKERS: u64 = 8;
 
-    pub fn new(workers: u64, scheme: u64) -> NewCrew
+    // None where either is out of its range.
+    pub fn new(workers: u64, scheme: u64) -> Option<Crew>
         ensures { result ≡ new_crew workers scheme }
     {
         if !in_range(1, Crew::MAX_WORKERS, workers) {
-            return NewCrew::Refused;
+            return None;
         }
-        match Scheme::from_number(scheme) {
-            NewScheme::Good(known) => NewCrew::Good(Crew {
-                workers: workers,
-                scheme: known,
-            }),
-            NewScheme::Unknown => NewCrew::Refused,
+        match Scheme::try_from(scheme) {
+            Ok(scheme) => Some(Crew { workers, scheme }),
+            Err(_) => None,
         }
     }
 }
@@ -278,11 +246,4 @@ pub struct JoinStep {
 pub enum Step {
     Scan(u64),
     Join(JoinStep),
-}
-
-// A numbered refusal and its place; number 0 is none.
-#[derive(Clone, Copy)]
-pub struct Verdict {
-    pub number: u64,
-    pub place: u64,
 }

@@ -1,5 +1,5 @@
 -- Opening a group, each of its turns and closing it: how the turns in a row go on.
-use Rattle.std.specs.Prelude.{◌≡◌, true, false, ℕ, suc, ◌+◌, ◌-◌, ◌*◌, ◌≤◌, ◌<◌, length, get_or, drop}
+use Rattle.std.specs.Prelude.{◌≡◌, true, false, Option, ℕ, suc, ◌+◌, ◌-◌, ◌*◌, ◌≤◌, ◌<◌, length, get_or, drop}
 use Rattle.std.proofs.Math.Path.{refl, fun_ext}
 use Rattle.std.proofs.Common.{sym, ap, ◌∙◌, subst, inl, inr, ⊎_elim, le_refl, add-one, length-append, length-set, drop_of_length-le, drop-cons}
 use mathlib.Core.List.Memᴰ
@@ -28,11 +28,12 @@ use Rattle.rules.proofs.laws.Progress.{between-end, sofar-joinable}
 use Rattle.rules.proofs.laws.Outcome.{best-least}
 use Rattle.crew.specs.declared.Worker.{Worker}
 use Rattle.crew.specs.declared.Handed as code
+use Rattle.shares.specs.Nowhere.{left}
 use Rattle.shares.specs.Shares.{few, share_of}
 use Rattle.pairs.specs.Places.{queue_at}
 use Rattle.pairs.specs.GroundLaws.{queue-all, next-queue}
 use Rattle.opening.specs.Opening.{Opened}
-use Rattle.turns.specs.Standing.{Columns, choice_in, row_in, Reach, InPlace, Handing, TurnTaken, Final, places_of, Standing, queues_at, hand_at, Work}
+use Rattle.turns.specs.Standing.{Columns, choice_in, row_in, Reach, InPlace, pair_at, handed_pair, Handing, TurnTaken, Final, places_of, Standing, queues_at, hand_at, Work}
 use Rattle.crew.specs.Workers.{nobody, worker_at}
 use Rattle.turns.specs.StandingLaws.{choice-same, row_at, open-first, open-places, top-is, few-handed, sofar-open, standing-open, sofar-before, before-sofar, standing-closed, turn_more, turn-less, turn-stood, standing-turn}
 use Rattle.turns.specs.StartLaws.{handing-inside}
@@ -87,7 +88,7 @@ module _ (h : List (Hand Numbered)) (x : Hand Numbered) (p : Pair) where
   then-pairs i = rw (map-append pair_of h (x ∷ [])) (⊎_elim (λ a. Memᴰ.append_left (pair_of x ∷ []) a) (λ e. Memᴰ.append_right (map pair_of h) (Memᴰ.head e)) i)
 
 -- ---- a turn between two turns of a group
-module _ {q : Query} {crew : Crew} {groups : Schedule} {k : ℕ} {turns : List ℕ} {lent : Memory} {at pairs : ℕ} {log : Memory} {workers workers' : List Worker} {old new : Columns} {pair : code.Handed} {w : ℕ}
+module _ {q : Query} {crew : Crew} {groups : Schedule} {k : ℕ} {turns : List ℕ} {lent : Memory} {at pairs : ℕ} {log : Memory} {workers workers' : List Worker} {old new : Columns} {pair : Option code.Handed} {w : ℕ}
     (work : Work q crew groups turns) (one : 1 ≤ k) (group-known : k ≤ table_count q.graph - 1) (known : w < crew.workers) (reach : Reach q.graph old)
     (r : Running q crew groups turns lent k workers at pairs old log) (t : TurnTaken q.graph q.fixed q.per_outer q.per_inner q.per_result (groups k) w workers workers' old new pair) where
   abbrev n : ℕ
@@ -101,23 +102,27 @@ module _ {q : Query} {crew : Crew} {groups : Schedule} {k : ℕ} {turns : List �
   entry_next : at < length turns → w ≡ get_or turns at 0 → drop at turns ≡ w ∷ drop (at + 1) turns
   entry_next l e = rw (add-one at, e) (drop-cons turns at 0 l)
 
-  module _ (left : (worker_at workers w).place.left ≡ true) where
+  module _ (has : left (worker_at workers w).place ≡ true) where
     -- what it hands
     abbrev x : Hand Numbered
     x = hand_at q.graph (groups k) workers w
 
     -- and changes
     abbrev given : Handing q.graph q.fixed q.per_outer q.per_inner q.per_result (groups k) (worker_at workers w) (worker_at workers' w) old new pair
-    given = t.step.some left
+    given = t.step.some has
+
+    -- the pair that it answers
+    abbrev got : code.Handed
+    got = handed_pair (pair_at q.graph given.spot) (kept (choice_in old given.row) given.offer).cost
 
     -- the pairs handed are those so far
     some-sofar : (p : Pair) → Pairs (r.handed ++ x ∷ []) p → Sofar q crew groups k (places_of workers') p
-    some-sofar p i = turn_more work one group-known known reach r.standing t left p
+    some-sofar p i = turn_more work one group-known known reach r.standing t has p
         (⊎_elim (λ a. inl (r.sofar p a)) (λ e. inr e) (pairs-then r.handed x p i))
 
     some-all : (p : Pair) → Sofar q crew groups k (places_of workers') p → Pairs (r.handed ++ x ∷ []) p
     some-all p z = then-pairs r.handed x p (⊎_elim (λ a. inl (r.all p a)) (λ e. inr e)
-        (turn-less work one group-known known reach r.standing t left p z))
+        (turn-less work one group-known known reach r.standing t has p z))
 
     -- all are joinable
     some-joinable : (p : Pair) → Pairs (r.handed ++ x ∷ []) p → JoinablePair q.graph p
@@ -125,21 +130,21 @@ module _ {q : Query} {crew : Crew} {groups : Schedule} {k : ℕ} {turns : List �
 
     -- the row of the result holds the best of all pairs handed for it
     some-best : Best (Handed q (best_at q) (Pairs (r.handed ++ x ∷ [])) (union (pair_of x))) (choice_in new given.row)
-    some-best = go (turn-stood work one group-known known reach r.standing t left)
+    some-best = go (turn-stood work one group-known known reach r.standing t has)
       where
         go : Stood q (Sofar q crew groups k (places_of workers')) (union (pair_of x)) (choice_in new given.row) → Best (Handed q (best_at q) (Pairs (r.handed ++ x ∷ [])) (union (pair_of x))) (choice_in new given.row)
         go (inl n) = absurd (n.0 (pair_of x) (some-sofar (pair_of x) (then-pairs r.handed x (pair_of x) (inr refl))) refl)
         go (inr b) = handed-same q (best_at q) some-all some-sofar b
 
     -- the cost that the turn answers is the standing cost of its result
-    pub stands-turn : Stands q (map pair_of (r.handed ++ hand_at q.graph (groups k) workers w ∷ [])) (union (pair_of (hand_at q.graph (groups k) workers w))) pair.cost
+    pub stands-turn : Stands q (map pair_of (r.handed ++ hand_at q.graph (groups k) workers w ∷ [])) (union (pair_of (hand_at q.graph (groups k) workers w))) got.cost
     stands-turn = rw cost (row-stands q (best_at q) (map pair_of (r.handed ++ x ∷ [])) (λ p i. let j = some-joinable p i in (best-least q work.sound p.driving j.driving-conn, best-least q work.sound p.inner j.inner-conn)) some-best)
       where
         c : Choice
         c = kept (choice_in old given.row) given.offer
 
-        cost : pair.cost ≡ (choice_in new given.row).cost
-        cost = ap (λ (y : code.Handed). y.cost) given.answer ∙ sym (ap (λ (y : Choice). y.cost)
+        cost : got.cost ≡ (choice_in new given.row).cost
+        cost = sym (ap (λ (y : Choice). y.cost)
             (ap (λ (y : Columns). choice_in y given.row) given.changed ∙ choice-same q.graph old c given.row reach (handing-inside given)))
 
     -- its worker has one pair more
@@ -150,39 +155,39 @@ module _ {q : Query} {crew : Crew} {groups : Schedule} {k : ℕ} {turns : List �
     -- whichever worker had the turn
     running-some : LogFits lent → (at' : ℕ) → at' ≤ length turns
         → Turning crew.workers (queues_by q crew groups) n turns (r.handed ++ hand w (queues_at q.graph crew (groups k) workers w)) k (pop w (queues_at q.graph crew (groups k) workers)) (drop at' turns)
-        → Running q crew groups turns lent k workers' at' (pairs + 1) new (noted log pairs w pair)
+        → Running q crew groups turns lent k workers' at' (pairs + 1) new (noted log pairs w got)
     running-some fits at' l u = record {
       handed = r.handed ++ x ∷ [];
       turning = rw (
-        turn-hand-some r.standing.places w known left,
+        turn-hand-some r.standing.places w known has,
         turn-pop r.standing.places known t,
       ) at u;
       entries = l;
       standing = stands_after;
       sofar = some-sofar;
       all = some-all;
-      logged = rw r.count (logged-more r.logged fits x pair stands-turn is-pair.0 is-pair.1);
+      logged = rw r.count (logged-more r.logged fits x got stands-turn (ap (λ (p : Pair). p.driving) is-pair) (ap (λ (p : Pair). p.inner) is-pair));
       count = omega (arith, r.count, length-append r.handed (x ∷ []));
       tally = some-tally;
     }
       where
-        is-pair : (pair.driving ≡ (pair_of (hand_at q.graph (groups k) workers w)).driving) × (pair.inner ≡ (pair_of (hand_at q.graph (groups k) workers w)).inner)
-        is-pair = turn-pair r.standing.places known t left
+        is-pair : pair_at q.graph given.spot ≡ pair_of (hand_at q.graph (groups k) workers w)
+        is-pair = turn-pair r.standing.places known t has
 
     -- the next entry's worker is handed a pair
-    pub running-listed-some : LogFits lent → at < length turns → w ≡ get_or turns at 0 → Running q crew groups turns lent k workers' (at + 1) (pairs + 1) new (noted log pairs w pair)
+    pub running-listed-some : LogFits lent → at < length turns → w ≡ get_or turns at 0 → Running q crew groups turns lent k workers' (at + 1) (pairs + 1) new (noted log pairs w got)
     running-listed-some fits l e = running-some fits (at + 1) (omega arith) (turning-listed crew.workers (queues_by q crew groups) n turns r.handed k (queues_at q.graph crew (groups k) workers) w (drop (at + 1) turns)
-        (some_left r.standing.places w known left) (rw (entry_next l e) at r.turning))
+        (some_left r.standing.places w known has) (rw (entry_next l e) at r.turning))
 
     -- "the lowest-numbered worker with a pair left" is handed one
-    pub running-lowest : LogFits lent → length turns ≤ at → ((v : ℕ) → v < w → (worker_at workers v).place.left ≡ false) → Running q crew groups turns lent k workers' at (pairs + 1) new (noted log pairs w pair)
+    pub running-lowest : LogFits lent → length turns ≤ at → ((v : ℕ) → v < w → left (worker_at workers v).place ≡ false) → Running q crew groups turns lent k workers' at (pairs + 1) new (noted log pairs w got)
     running-lowest fits l lower =
         let e : drop at turns ≡ [] = drop_of_length-le turns {i = at} l in
         running-some fits at r.entries (rw e (turning-lowest crew.workers (queues_by q crew groups) n turns r.handed k (queues_at q.graph crew (groups k) workers) w
-        (lowest-left r.standing.places w known left lower) (rw e at r.turning)))
+        (lowest-left r.standing.places w known has lower) (rw e at r.turning)))
 
   -- the next entry's worker has no pair left, another has
-  pub running-listed-none : (worker_at workers w).place.left ≡ false → at < length turns → w ≡ get_or turns at 0 → (v : ℕ) → v < crew.workers → (worker_at workers v).place.left ≡ true → Running q crew groups turns lent k workers' (at + 1) pairs new log
+  pub running-listed-none : left (worker_at workers w).place ≡ false → at < length turns → w ≡ get_or turns at 0 → (v : ℕ) → v < crew.workers → left (worker_at workers v).place ≡ true → Running q crew groups turns lent k workers' (at + 1) pairs new log
   running-listed-none none l e v i some =
       let same = same-workers r.standing.places known t none in
       let u = turning-listed crew.workers (queues_by q crew groups) n turns r.handed k (queues_at q.graph crew (groups k) workers) w (drop (at + 1) turns)
@@ -256,7 +261,7 @@ module _ {q : Query} {crew : Crew} {groups : Schedule} {k : ℕ} {turns : List �
     pairs-few = omega (arith, r.count, tally-few r.tally (k * few) work.few-workers (few-handed work one known r.standing.places))
 
     -- a group is closed: no worker has a pair left
-    pub running-closed : ((w : ℕ) → w < crew.workers → (worker_at workers w).place.left ≡ false) → Ran q crew groups turns lent (k + 1) workers at pairs c log
+    pub running-closed : ((w : ℕ) → w < crew.workers → left (worker_at workers w).place ≡ false) → Ran q crew groups turns lent (k + 1) workers at pairs c log
     running-closed none = rw (add-one k) (record {
       handed = r.handed;
       grouping = turning-closed crew.workers (queues_by q crew groups) (table_count q.graph - 1) turns r.handed k (queues_at q.graph crew (groups k) workers) (drop at turns)

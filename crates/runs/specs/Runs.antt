@@ -116,18 +116,6 @@ pub record Within (q : Query) (crew : Crew) (groups : Schedule) (turns : List �
   pub kept : Kept q.graph old c
   pub log-fits : LogFits log
 
--- between two turns, whatever was kept and lent before
-pub record Underway (q : Query) (crew : Crew) (groups : Schedule) (turns : List ℕ) (k low : ℕ) (workers : List Worker) (at pairs : ℕ) (c : Columns) (log : Memory) : Type 0 where
-  pub old : Columns
-  pub lent : Memory
-  pub lent_fits : LogFits lent
-  pub within : Within q crew groups turns old lent k low workers at pairs c log
-
--- whatever was kept and lent before, what stood at one turn of a group stands, carried on, at a later one
-pub record Carried (q : Query) (crew : Crew) (groups : Schedule) (turns : List ℕ) (k low₀ : ℕ) (workers₀ : List Worker) (at₀ pairs₀ : ℕ) (c₀ : Columns) (log₀ : Memory)
-    (low : ℕ) (workers : List Worker) (at pairs : ℕ) (c : Columns) (log : Memory) : Type 0 where
-  pub carry : (old : Columns) (lent : Memory) → LogFits lent → Within q crew groups turns old lent k low₀ workers₀ at₀ pairs₀ c₀ log₀ → Within q crew groups turns old lent k low workers at pairs c log
-
 -- what it leaves: each row final, the spare ones as they were; log, pairs and counts are those of the turns in a row
 pub record SearchDone (q : Query) (crew : Crew) (groups : Schedule) (turns : List ℕ) (old new : Columns) (log log' : Memory) (pairs : ℕ) (counts : List ℕ) : Type 0 where
   pub handed : List (Hand Numbered)

@@ -1,7 +1,7 @@
 -- The search as a loop over groups and, in each, over turns.
-use Rattle.std.specs.Prelude.{◌≡◌, refl, ◌⊎◌, true, false, List, [], ◌∷◌, map, ℕ, zero, suc, ◌+◌, ◌-◌, ◌*◌, ◌^◌, ◌≤◌, ◌<◌, length, get_or, set, replicate}
-use Rattle.std.proofs.Common.{sym, ap, ◌∙◌, inl, inr, ⊎_elim, arith, length-set, length-take, drop-set-lt, Fits, lt-ltb, le-ltb}
-use Rattle.std.proofs.Math.Decide.{dec_lt}
+use Rattle.std.specs.Prelude.{◌≡◌, refl, ◌⊎◌, true, false, Option, Some, None, List, [], ◌∷◌, map, ℕ, zero, suc, ◌+◌, ◌-◌, ◌*◌, ◌^◌, ◌≤◌, ◌<◌, length, get_or, set, replicate}
+use Rattle.std.proofs.Common.{sym, ap, ◌∙◌, inl, inr, ⊎_elim, arith, length-set, length-take, get_or-set_other, drop-set-lt, Fits, lt-ltb, le-ltb}
+use Rattle.std.proofs.Math.Decide.{dec_lt, ℕ_discrete}
 use Rattle.std.proofs.lemmas.List.{length-replicate}
 use Rattle.std.specs.Int.{w64}
 use Rattle.rules.specs.Limits.{max_tables, max_workers}
@@ -23,18 +23,19 @@ use Rattle.rules.specs.laws.Bools.{true-or-false, not-both}
 use Rattle.skips.specs.Vectors.{written}
 use Rattle.crew.specs.declared.Worker.{Worker}
 use Rattle.crew.specs.declared.Handed as code
+use Rattle.shares.specs.Nowhere.{left}
 use Rattle.shares.specs.Shares.{few}
-use Rattle.pairs.specs.Places.{Fit}
+use Rattle.pairs.specs.Places.{Fit, Ground}
 use Rattle.opening.specs.Opening.{Opened}
-use Rattle.turns.specs.Standing.{Columns, columns, Reach, Ready, Board, InPlace, TurnTaken, Work}
+use Rattle.turns.specs.Standing.{Columns, columns, Reach, Ready, Open, InPlace, TurnTaken, Work}
 use Rattle.crew.specs.Workers.{nobody, worker_at, counts_of}
 use Rattle.turns.specs.QueueLaws.{still_met, turn-found, turn-progress, turn-progress-none}
 use Rattle.turns.specs.StandingLaws.{top-is, fit_is}
 use Rattle.turns.specs.StepLaws.{step-costs, step-outers, step-methods}
-use Rattle.turns.specs.StartLaws.{tables-fit, handing-inside, Starting, final-start, reach-start, ground-at, Prepared, board-of}
+use Rattle.turns.specs.StartLaws.{tables-fit, handing-inside, Starting, final-start, reach-start, ground-at, open-of}
 use Rattle.crew.specs.Whose.{LowestLeft, whose, entries_on}
 use Rattle.crew.specs.Logs.{noted_if, count_if, LogFits}
-use Rattle.runs.specs.Runs.{Running, SearchReady, Kept, Between, Within, Underway, Carried, SearchDone}
+use Rattle.runs.specs.Runs.{Running, SearchReady, Kept, Between, Within, SearchDone}
 use Rattle.runs.specs.RunLaws.{running-listed-some, running-lowest, running-listed-none, ran-start, running-open, pairs-few, running-closed, ran-groups, ran-rows, ran-counts}
 
 -- ---- what is spare stays
@@ -53,12 +54,12 @@ spared-written n at [] l h = spared-same n l
 spared-written n at (x ∷ v) l h = spared-on n l (set l at x) (written (set l at x) (suc at) v) (spared-set n at l x (omega arith)) (spared-written n (suc at) v (set l at x) (omega arith))
 
 -- a turn changes no row behind the memo's
-module _ {g : Graph} {fixed outer inner result : List ℕ} {group : Group} {w : ℕ} {workers workers' : List Worker} {old new : Columns} {pair : code.Handed}
+module _ {g : Graph} {fixed outer inner result : List ℕ} {group : Group} {w : ℕ} {workers workers' : List Worker} {old new : Columns} {pair : Option code.Handed}
     (t : TurnTaken g fixed outer inner result group w workers workers' old new pair) where
   turn-kept : Kept g old new
-  turn-kept = ⊎_elim some none (true-or-false (worker_at workers w).place.left)
+  turn-kept = ⊎_elim some none (true-or-false (left (worker_at workers w).place))
     where
-      some : (worker_at workers w).place.left ≡ true → Kept g old new
+      some : left (worker_at workers w).place ≡ true → Kept g old new
       some e =
           let h = t.step.some e in
           let l = handing-inside h in
@@ -68,7 +69,7 @@ module _ {g : Graph} {fixed outer inner result : List ℕ} {group : Group} {w : 
             methods = spared-set (length (memo g)) h.row old.methods _ l;
           })
 
-      none : (worker_at workers w).place.left ≡ false → Kept g old new
+      none : left (worker_at workers w).place ≡ false → Kept g old new
       none e = rw (t.step.none e).1 (record { costs = spared-same _ _; outers = spared-same _ _; methods = spared-same _ _ })
 
   pub turn-reach : Reach g old → Reach g new
@@ -79,16 +80,13 @@ kept_on x y = record { costs = spared-on _ _ _ _ x.costs y.costs; outers = spare
 
 -- ---- one turn of the loop
 -- the log keeps its lengths
-noted-fits : (l : Memory) (j w : ℕ) (p : code.Handed) → LogFits l → LogFits (noted_if l j w p)
-noted-fits l j w p z = go (true-or-false p.found)
-  where
-    go : (p.found ≡ true) ⊎ (p.found ≡ false) → LogFits (noted_if l j w p)
-    go (inl e) = rw e (record {
-      driving = length-set l.log_driving j p.driving ∙ z.driving ∙ sym (length-set l.log_workers j w);
-      inner = length-set l.log_inner j p.inner ∙ z.inner ∙ sym (length-set l.log_workers j w);
-      costs = length-set l.log_costs j p.cost ∙ z.costs ∙ sym (length-set l.log_workers j w);
-    })
-    go (inr e) = rw e z
+noted-fits : (l : Memory) (j w : ℕ) (p : Option code.Handed) → LogFits l → LogFits (noted_if l j w p)
+noted-fits l j w (Some p) z = record {
+  driving = length-set l.log_driving j p.driving ∙ z.driving ∙ sym (length-set l.log_workers j w);
+  inner = length-set l.log_inner j p.inner ∙ z.inner ∙ sym (length-set l.log_workers j w);
+  costs = length-set l.log_costs j p.cost ∙ z.costs ∙ sym (length-set l.log_workers j w);
+}
+noted-fits l j w None z = z
 
 module _ {q : Query} {crew : Crew} {groups : Schedule} {k : ℕ} {turns : List ℕ} {old : Columns} {lent : Memory} {low at pairs : ℕ} {workers : List Worker} {c : Columns} {log : Memory}
     (work : Work q crew groups turns) (one : 1 ≤ k) (known : k ≤ table_count q.graph - 1) (fits : LogFits lent)
@@ -101,11 +99,11 @@ module _ {q : Query} {crew : Crew} {groups : Schedule} {k : ℕ} {turns : List �
       go (yes l) = omega (arith, rw (lt-ltb at (length turns) l) at e, work.turns-known at l)
       go (no n) = omega (arith, rw (le-ltb at (length turns) (omega arith)) at e)
 
-  module _ {w : ℕ} (e : w ≡ whose turns at low) {workers' : List Worker} {new : Columns} {pair : code.Handed}
+  module _ {w : ℕ} (e : w ≡ whose turns at low) {workers' : List Worker} {new : Columns} {pair : Option code.Handed}
       (t : TurnTaken q.graph q.fixed q.per_outer q.per_inner q.per_result (groups k) w workers workers' c new pair) where
     -- what stands after it
     running-next : Running q crew groups turns lent k workers' (entries_on (length turns) at) (count_if pairs pair) new (noted_if log pairs w pair)
-    running-next = go (dec_lt at (length turns)) (true-or-false (worker_at workers w).place.left)
+    running-next = go (dec_lt at (length turns)) (true-or-false (left (worker_at workers w).place))
       where
         r : Running q crew groups turns lent k workers at pairs c log
         r = z.running
@@ -113,23 +111,20 @@ module _ {q : Query} {crew : Crew} {groups : Schedule} {k : ℕ} {turns : List �
         own : w < crew.workers
         own = whose-known e
 
-        found : pair.found ≡ (worker_at workers w).place.left
-        found = turn-found r.standing.places own t
-
-        go : Dec (at < length turns) → ((worker_at workers w).place.left ≡ true) ⊎ ((worker_at workers w).place.left ≡ false)
+        go : Dec (at < length turns) → (left (worker_at workers w).place ≡ true) ⊎ (left (worker_at workers w).place ≡ false)
             → Running q crew groups turns lent k workers' (entries_on (length turns) at) (count_if pairs pair) new (noted_if log pairs w pair)
         go (yes l) (inl h) =
             let n : w ≡ get_or turns at 0 = rw (lt-ltb at (length turns) l) at e in
-            rw (lt-ltb at (length turns) l, found ∙ h) (running-listed-some work one known own z.reach r t h fits l n)
+            rw (lt-ltb at (length turns) l, (t.step.some h).answer) (running-listed-some work one known own z.reach r t h fits l n)
         go (yes l) (inr h) =
             let n : w ≡ get_or turns at 0 = rw (lt-ltb at (length turns) l) at e in
-            rw (lt-ltb at (length turns) l, found ∙ h) (running-listed-none work one known own z.reach r t h l n low more (z.lowest.left more))
+            rw (lt-ltb at (length turns) l, (t.step.none h).2) (running-listed-none work one known own z.reach r t h l n low more (z.lowest.left more))
         go (no l) (inl h) =
             let n : w ≡ low = rw (le-ltb at (length turns) (omega arith)) at e in
-            rw (le-ltb at (length turns) (omega arith), found ∙ h) (running-lowest work one known own z.reach r t h fits (omega arith) (λ v u. z.lowest.lower v (omega arith)))
+            rw (le-ltb at (length turns) (omega arith), (t.step.some h).answer) (running-lowest work one known own z.reach r t h fits (omega arith) (λ v u. z.lowest.lower v (omega arith)))
         go (no l) (inr h) =
             let n : w ≡ low = rw (le-ltb at (length turns) (omega arith)) at e in
-            absurd (not-both (worker_at workers w).place.left (rw n (z.lowest.left more)) h)
+            absurd (not-both (left (worker_at workers w).place) (rw n (z.lowest.left more)) h)
 
     -- A TURN OF THE LOOP
     pub within-turn : {low' : ℕ} {log' : Memory} → LowestLeft workers' crew.workers low' → log' ≡ noted_if log pairs w pair → Within q crew groups turns old lent k low' workers' (entries_on (length turns) at) (count_if pairs pair) new log'
@@ -143,7 +138,7 @@ module _ {q : Query} {crew : Crew} {groups : Schedule} {k : ℕ} {turns : List �
 
     -- and fewer are left
     pub within-less : length turns - entries_on (length turns) at + still_met q.graph (groups k) crew.workers workers' < length turns - at + still_met q.graph (groups k) crew.workers workers
-    within-less = go (dec_lt at (length turns)) (true-or-false (worker_at workers w).place.left)
+    within-less = go (dec_lt at (length turns)) (true-or-false (left (worker_at workers w).place))
       where
         own : w < crew.workers
         own = whose-known e
@@ -151,21 +146,20 @@ module _ {q : Query} {crew : Crew} {groups : Schedule} {k : ℕ} {turns : List �
         places : InPlace q.graph (groups k) crew workers
         places = z.running.standing.places
 
-        go : Dec (at < length turns) → ((worker_at workers w).place.left ≡ true) ⊎ ((worker_at workers w).place.left ≡ false)
+        go : Dec (at < length turns) → (left (worker_at workers w).place ≡ true) ⊎ (left (worker_at workers w).place ≡ false)
             → length turns - entries_on (length turns) at + still_met q.graph (groups k) crew.workers workers' < length turns - at + still_met q.graph (groups k) crew.workers workers
         go (yes l) (inl h) = rw (lt-ltb at (length turns) l) (omega (arith, turn-progress places own t h))
         go (yes l) (inr h) = rw (lt-ltb at (length turns) l) (omega (arith, turn-progress-none places own t h))
         go (no l) (inl h) = rw (le-ltb at (length turns) (omega arith)) (omega (arith, turn-progress places own t h))
         go (no l) (inr h) =
             let n : w ≡ low = rw (le-ltb at (length turns) (omega arith)) at e in
-            absurd (not-both (worker_at workers w).place.left (rw n (z.lowest.left more)) h)
+            absurd (not-both (left (worker_at workers w).place) (rw n (z.lowest.left more)) h)
 
   -- what the turn may rely on
-  pub within-board : {sets estimates cells starts cell_starts : List ℕ} → Prepared q sets estimates cells starts cell_starts
-      → Board q.graph q.fixed q.per_outer q.per_inner q.per_result sets estimates cells starts cell_starts (groups k) c
-  within-board p =
+  pub within-plays : {group : Group} → group ≡ groups k → Open q.graph group c
+  within-plays is =
       let e = top-is work one known in
-      board-of p (fit_is work one known) (omega (arith, e)) z.reach (λ S d l. z.running.standing.rows.final S d (omega (arith, e)))
+      rw is (open-of work.sound (fit_is work one known) (omega (arith, e)) z.reach (λ S d l. z.running.standing.rows.final S d (omega (arith, e))))
 
   pub within-ready : {w : ℕ} → w ≡ whose turns at low → Ready q.graph (groups k) (worker_at workers w)
   within-ready {w} e = z.running.standing.places.ready w (whose-known e)
@@ -188,77 +182,41 @@ module _ {q : Query} {crew : Crew} {groups : Schedule} {k : ℕ} {turns : List �
   pub within-few : {workers : List Worker} {low : ℕ} → Within q crew groups turns old lent k low workers at pairs c log → pairs ≤ max_workers * (k * few)
   within-few z = pairs-few work one known z.running
 
--- ---- a group's turns, carried on
-pub carried-start : (q : Query) (crew : Crew) (groups : Schedule) (turns : List ℕ) (k low : ℕ) (workers : List Worker) (at pairs : ℕ) (c : Columns) (log : Memory) → Carried q crew groups turns k low workers at pairs c log low workers at pairs c log
-carried-start q crew groups turns k low workers at pairs c log = record { carry = λ old lent f z. z }
+-- ---- the lowest worker with a pair left, after a turn that leaves its worker one
+pub lowest-kept : {g : Graph} {fixed outer inner result : List ℕ} {group : Group} {w : ℕ} {workers workers' : List Worker} {old new : Columns} {pair : Option code.Handed}
+    → TurnTaken g fixed outer inner result group w workers workers' old new pair → left (worker_at workers' w).place ≡ true → {m low : ℕ} → LowestLeft workers m low → LowestLeft workers' m low
+lowest-kept {w = w} {workers = workers} {workers' = workers'} t e {m} {low} z = record { inside = z.inside; lower = λ u l. lower u l (ℕ_discrete u w); left = λ l. some l (ℕ_discrete low w) }
+  where
+    other : (u : ℕ) → (u ≡ w → ⊥) → worker_at workers' u ≡ worker_at workers u
+    other u n = ap (λ (l : List Worker). worker_at l u) t.others ∙ get_or-set_other workers w u (worker_at workers' w) nobody n
 
-pub carried-turn : {q : Query} {crew : Crew} {groups : Schedule} {k : ℕ} {turns : List ℕ} {low₀ at₀ pairs₀ : ℕ} {workers₀ : List Worker} {c₀ : Columns} {log₀ : Memory} {low at pairs : ℕ} {workers : List Worker} {c : Columns} {log : Memory}
-    → Work q crew groups turns → 1 ≤ k → k ≤ table_count q.graph - 1 → Carried q crew groups turns k low₀ workers₀ at₀ pairs₀ c₀ log₀ low workers at pairs c log → low < crew.workers
-    → {w : ℕ} → w ≡ whose turns at low → {workers' : List Worker} {new : Columns} {pair : code.Handed} → TurnTaken q.graph q.fixed q.per_outer q.per_inner q.per_result (groups k) w workers workers' c new pair
-    → {low' : ℕ} {log' : Memory} → LowestLeft workers' crew.workers low' → log' ≡ noted_if log pairs w pair → {at' pairs' : ℕ} → at' ≡ entries_on (length turns) at → pairs' ≡ count_if pairs pair
-    → Carried q crew groups turns k low₀ workers₀ at₀ pairs₀ c₀ log₀ low' workers' at' pairs' new log'
-carried-turn work one known z more e t l n a p = record { carry = λ old lent f w. rw (a, p) (within-turn work one known f (z.carry old lent f w) more e t l n) }
+    lower : (u : ℕ) → u < low → Dec (u ≡ w) → left (worker_at workers' u).place ≡ false
+    lower u l (yes i) =
+        let n : left (worker_at workers w).place ≡ false = rw i at (z.lower u l) in
+        absurd (not-both (left (worker_at workers' w).place) e (ap (λ (x : Worker). left x.place) (t.step.none n).0 ∙ n))
+    lower u l (no n) = ap (λ (x : Worker). left x.place) (other u n) ∙ z.lower u l
 
-pub underway-turn : {q : Query} {crew : Crew} {groups : Schedule} {k : ℕ} {turns : List ℕ} {low at pairs : ℕ} {workers : List Worker} {c : Columns} {log : Memory}
-    → Work q crew groups turns → 1 ≤ k → k ≤ table_count q.graph - 1 → Underway q crew groups turns k low workers at pairs c log → low < crew.workers
-    → {w : ℕ} → w ≡ whose turns at low → {workers' : List Worker} {new : Columns} {pair : code.Handed} → TurnTaken q.graph q.fixed q.per_outer q.per_inner q.per_result (groups k) w workers workers' c new pair
-    → {low' : ℕ} {log' : Memory} → LowestLeft workers' crew.workers low' → log' ≡ noted_if log pairs w pair → {at' pairs' : ℕ} → at' ≡ entries_on (length turns) at → pairs' ≡ count_if pairs pair
-    → Underway q crew groups turns k low' workers' at' pairs' new log'
-underway-turn work one known z more e t l n a p = record { old = z.old; lent = z.lent; lent_fits = z.lent_fits; within = rw (a, p) (within-turn work one known z.lent_fits z.within more e t l n) }
+    some : low < m → Dec (low ≡ w) → left (worker_at workers' low).place ≡ true
+    some l (yes i) = rw i e
+    some l (no n) = ap (λ (x : Worker). left x.place) (other low n) ∙ z.left l
 
--- ---- bounds, over plain numbers
+-- ---- what a turn of the loop leaves: fewer turns, and, with whichever worker is then the lowest, what holds at the next turn
+pub record TurnedTo (q : Query) (crew : Crew) (groups : Schedule) (turns : List ℕ) (old : Columns) (lent : Memory) (k low at : ℕ) (workers : List Worker) (w : ℕ) (workers' : List Worker) (at' pairs' : ℕ) (new : Columns) (log' : Memory) : Type 0 where
+  pub less : length turns - at' + still_met q.graph (groups k) crew.workers workers' < length turns - at + still_met q.graph (groups k) crew.workers workers
+  pub lowest : left (worker_at workers' w).place ≡ true → LowestLeft workers' crew.workers low
+  pub within : {low' : ℕ} → LowestLeft workers' crew.workers low' → Within q crew groups turns old lent k low' workers' at' pairs' new log'
+
+pub turned-to : {q : Query} {crew : Crew} {groups : Schedule} {k : ℕ} {turns : List ℕ} {old : Columns} {lent : Memory} {low at pairs : ℕ} {workers : List Worker} {c : Columns} {log : Memory} → Work q crew groups turns → 1 ≤ k → k ≤ table_count q.graph - 1
+    → LogFits lent → Within q crew groups turns old lent k low workers at pairs c log → low < crew.workers → {w : ℕ} → w ≡ whose turns at low → {group : Group} → group ≡ groups k → {workers' : List Worker} {new : Columns} {pair : Option code.Handed}
+    → TurnTaken q.graph q.fixed q.per_outer q.per_inner q.per_result group w workers workers' c new pair → {at' pairs' : ℕ} {log' : Memory} → at' ≡ entries_on (length turns) at → pairs' ≡ count_if pairs pair → log' ≡ noted_if log pairs w pair
+    → TurnedTo q crew groups turns old lent k low at workers w workers' at' pairs' new log'
+turned-to work one known fits z more e is step a p n =
+    let t = rw is at step in
+    record { less = rw a (within-less work one known fits z more e t); lowest = λ h. lowest-kept t h z.lowest; within = λ l. rw (a, p) (within-turn work one known fits z more e t l n) }
+
 -- what opening a group may rely on
 pub open-fits : {q : Query} {crew : Crew} {groups : Schedule} {k : ℕ} {turns : List ℕ} → Work q crew groups turns → 1 ≤ k → k ≤ table_count q.graph - 1 → {group : Group} → group ≡ groups k → Fit q.graph group
 open-fits work one known is = rw is (fit_is work one known)
-
--- a group of the loop is one of the N less 1
-pub group_of : {k e n : ℕ} → k < e → e ≡ n → k ≤ n - 1
-group_of h e = omega arith
-
-pub below-eight : {w m : ℕ} → w < m → m ≤ max_workers → w < max_workers
-below-eight h e = omega arith
-
--- places of the table, with a worker in hand and without
-pub in_table : {w : ℕ} (workers : List Worker) → w < max_workers → length workers ≡ max_workers → w < length workers
-in_table workers h e = omega arith
-
-pub in_memory : (workers : List Worker) (held : ℕ) (v : Worker) → held < max_workers → length (set workers held v) ≡ max_workers → held < length workers
-in_memory workers held v h e = omega (arith, length-set workers held v)
-
-pub few-pairs : {p k n : ℕ} → p ≤ max_workers * (k * few) → k ≤ n - 1 → n ≤ max_tables → p < 2 ^ 63
-few-pairs a b c = omega arith
-
--- the next group
-pub group-few : {k n : ℕ} → k ≤ n → n ≤ max_tables → k ≤ max_tables
-group-few h l = omega arith
-
-pub next-group : {k n : ℕ} → 1 ≤ k → k ≤ n - 1 → (1 ≤ k + 1) × (k + 1 ≤ n)
-next-group h l = (omega arith, omega arith)
-
--- the tables of starts have room for every size
-pub starts-room : {n : ℕ} → n ≤ max_tables → n + 2 ≤ 18
-starts-room h = omega arith
-
-pub size_fits : {k n : ℕ} → k ≤ n → n ≤ max_tables → Fits w64 (k + 1)
-size_fits h l = omega arith
-
-pub less-size : {k e : ℕ} → k < e → e - (k + 1) < e - k
-less-size h = omega arith
-
--- past the last group, all are done
-pub all-groups : {k e n : ℕ} → k ≤ n → e ≡ n → e ≤ k → k ≡ n
-all-groups a b c = omega arith
-
--- ---- lengths stay
-pub laid-length : (l v : List ℕ) {l' : List ℕ} → l' ≡ written l 0 v → length l' ≡ length l
-laid-length l v e = ap length e ∙ (spared-written (length v) 0 v l (omega arith)).length-kept
-
-pub logged-lengths : {q : Query} {h : List (Hand Numbered)} {lent log : Memory} → Logged q h lent log → LogFits lent
-    → (length log.log_workers ≡ length lent.log_workers) × (length log.log_driving ≡ length lent.log_driving) × (length log.log_inner ≡ length lent.log_inner) × (length log.log_costs ≡ length lent.log_costs)
-logged-lengths {q} {h} {lent} {log} z f = (column (λ (x : Hand Numbered). x.worker) lent.log_workers refl z.workers, column (λ (x : Hand Numbered). (pair_of x).driving) lent.log_driving f.driving z.driving, column (λ (x : Hand Numbered). (pair_of x).inner) lent.log_inner f.inner z.inner, z.spare.length-kept)
-  where
-    column : (f : Hand Numbered → ℕ) (l : List ℕ) {l' : List ℕ} → length l ≡ length lent.log_workers → l' ≡ over (map f (shown lent h)) l → length l' ≡ length l
-    column f l e i = ap length i ∙ over-length (map f (shown lent h)) l (omega (arith, length-map f (shown lent h), length-take (length lent.log_workers) h))
 
 -- ---- the whole
 module _ {q : Query} {crew : Crew} {turns sets estimates cells : List ℕ} {c : Columns} {log : Memory} (z : SearchReady q crew turns sets estimates cells c log) where
@@ -280,46 +238,33 @@ module _ {q : Query} {crew : Crew} {turns sets estimates cells : List ℕ} {c : 
       zeros-short = let n : ℕ = 0 in omega (arith, length-replicate (length (memo q.graph)) n, z.costs-room)
 
   -- before the first group, once the scan costs are laid
-  module _ {costs : List ℕ} (e : costs ≡ written c.costs 0 q.scans) where
-    pub between_start : (groups : Schedule) (workers : List Worker) → length workers ≡ max_workers → ((w : ℕ) → worker_at workers w ≡ nobody)
-        → Between q crew groups turns (columns costs c.outers c.methods) log 1 workers 0 0 (columns costs c.outers c.methods) log
-    between_start groups workers l n =
-        let start : Starting q z.old_costs z.old_outers z.old_methods (columns costs c.outers c.methods) = record {
-          costs-room = z.costs-room;
-          outers-room = z.outers-room;
-          methods-room = z.methods-room;
-          costs-are = e ∙ ap (λ (x : List ℕ). written x 0 q.scans) z.costs-laid;
-          outers-are = z.outers-laid;
-          methods-are = z.methods-laid;
-        } in
-        record {
-          ran = ran-start crew groups turns log log workers (final-start q z.sound start crew groups) l n (record { workers = refl; driving = refl; inner = refl; costs = refl });
-          reach = reach-start q z.sound start;
-          kept = record { costs = spared-same _ _; outers = spared-same _ _; methods = spared-same _ _ };
-          log-fits = z.log-fits;
-        }
+  pub between_start : {costs : List ℕ} → costs ≡ written c.costs 0 q.scans → (groups : Schedule) (workers : List Worker) → length workers ≡ max_workers → ((w : ℕ) → worker_at workers w ≡ nobody)
+      → Between q crew groups turns c log 1 workers 0 0 (columns costs c.outers c.methods) log
+  between_start {costs} e groups workers l n =
+      let start : Starting q z.old_costs z.old_outers z.old_methods (columns costs c.outers c.methods) = record {
+        costs-room = z.costs-room;
+        outers-room = z.outers-room;
+        methods-room = z.methods-room;
+        costs-are = e ∙ ap (λ (x : List ℕ). written x 0 q.scans) z.costs-laid;
+        outers-are = z.outers-laid;
+        methods-are = z.methods-laid;
+      } in
+      record {
+        ran = ran-start crew groups turns log log workers (final-start q z.sound start crew groups) l n (record { workers = refl; driving = refl; inner = refl; costs = refl });
+        reach = reach-start q z.sound start;
+        kept = record { costs = rw e (spared-written (length (memo q.graph)) 0 q.scans c.costs (omega (arith, scans-short))); outers = spared-same _ _; methods = spared-same _ _ };
+        log-fits = z.log-fits;
+      }
 
-    -- after the last
-    pub between-end : {groups : Schedule} {workers : List Worker} {at pairs : ℕ} {new : Columns} {log' : Memory} → Between q crew groups turns (columns costs c.outers c.methods) log (table_count q.graph) workers at pairs new log'
-        → SearchDone q crew groups turns c new log log' pairs (counts_of workers)
-    between-end b = record {
-      handed = b.ran.handed;
-      turns-run = ran-groups b.ran z.sound.graph.some-table;
-      rows = ran-rows b.ran;
-      kept = record {
-        costs = spared-on (length (memo q.graph)) c.costs costs _ (rw e (spared-written (length (memo q.graph)) 0 q.scans c.costs (omega (arith, scans-short)))) b.kept.costs;
-        outers = b.kept.outers;
-        methods = b.kept.methods;
-      };
-      logged = b.ran.logged;
-      count = b.ran.count;
-      tallies = ran-counts b.ran;
-    }
+  -- after the last
+  pub between-end : {groups : Schedule} {workers : List Worker} {at pairs : ℕ} {new : Columns} {log' : Memory} → Between q crew groups turns c log (table_count q.graph) workers at pairs new log'
+      → SearchDone q crew groups turns c new log log' pairs (counts_of workers)
+  between-end b = record { handed = b.ran.handed; turns-run = ran-groups b.ran z.sound.graph.some-table; rows = ran-rows b.ran; kept = b.kept; logged = b.ran.logged; count = b.ran.count; tallies = ran-counts b.ran }
 
-  -- what no turn changes
-  pub prepared : (old_starts old_cell_starts : List ℕ) {starts₁ cell_starts₁ : List ℕ} → table_count q.graph + 2 ≤ length old_starts → table_count q.graph + 2 ≤ length old_cell_starts
-      → starts₁ ≡ written old_starts 0 (starts q.graph) → cell_starts₁ ≡ written old_cell_starts 0 (cell_starts q.graph) → Prepared q sets estimates cells starts₁ cell_starts₁
-  prepared old_starts old_cell_starts a b h i = record { sound = z.sound; footing = ground-at q.graph old_starts old_cell_starts z.sets-laid z.cells-laid a b h i; estimated = z.estimated }
+  -- where candidates are met
+  pub grounded : (old_starts old_cell_starts : List ℕ) {starts₁ cell_starts₁ : List ℕ} → table_count q.graph + 2 ≤ length old_starts → table_count q.graph + 2 ≤ length old_cell_starts
+      → starts₁ ≡ written old_starts 0 (starts q.graph) → cell_starts₁ ≡ written old_cell_starts 0 (cell_starts q.graph) → Ground q.graph sets cells starts₁ cell_starts₁
+  grounded old_starts old_cell_starts a b h i = ground-at q.graph old_starts old_cell_starts z.sets-laid z.cells-laid a b h i
 
 -- a table of nobodies
 pub nobodies : {v : Worker} → v ≡ nobody → (length (replicate max_workers v) ≡ max_workers) × ((w : ℕ) → worker_at (replicate max_workers v) w ≡ nobody)
@@ -329,3 +274,7 @@ nobodies {v} e = (length-replicate max_workers v, λ w. ap (λ (x : Worker). wor
     each_same zero w = refl
     each_same (suc n) zero = refl
     each_same (suc n) (suc w) = each_same n w
+
+-- laying out changes no length
+pub laid-length : (l v : List ℕ) {l' : List ℕ} → l' ≡ written l 0 v → length l' ≡ length l
+laid-length l v e = ap length e ∙ (spared-written (length v) 0 v l (omega arith)).length-kept

@@ -1,9 +1,12 @@
 // Sets of tables as numbers, where table t is digit t - 1: each function is a definition of rules.
+// Tables and sets are plain numbers with their range in the clause: a type of either would be taken apart in every bit operation.
 #![tactic(auto)]
 
 ghost use Rattle.std.specs.Prelude.{◌≡◌, not, ◌+◌, ◌^◌, ◌<◌, ◌≤◌};
 ghost use Rattle.rules.specs.Sets.{has, Disjoint, disjoint, size, single, tables, rank, Lowest};
 ghost use Rattle.rules.specs.Rows.{before};
+
+pub mod shown;
 
 // Whether table `t` stands in `s`.
 pub fn has_table(s: u64, t: u64) -> bool
@@ -59,7 +62,7 @@ pub fn rank_of(s: u64, t: u64) -> u64
     size(s % single(t))
 }
 
-// Whether, of two sets of one size, `a` stands before `b` in memo order: the lowest table in which they differ is a's.
+// No Ord: this is the order of memo rows, of sets of one size alone. Whether, of two sets of one size, `a` stands before `b` in memo order: the lowest table in which they differ is a's.
 pub fn comes_first(a: u64, b: u64) -> bool
     requires { (size a ≡ size b) × (a < 2 ^ 32) × (b < 2 ^ 32) }
     ensures { result ≡ before (tables 32 a) (tables 32 b) }

@@ -29,6 +29,7 @@ pub struct Span {
     pub step: usize,
 }
 
+#[tactic(auto, unfolding(rules::specs::Shares::cut))]
 fn cut(total: usize, workers: usize, worker: usize) -> usize
     requires { (1 ≤ workers) × (worker ≤ max_workers) × (total ≤ few) }
     ensures { result ≡ cut total workers worker }
@@ -41,10 +42,7 @@ fn in_cut(rows: usize, workers: usize, worker: usize, row: usize) -> bool
     requires { (1 ≤ workers) × (worker < workers) × (workers ≤ max_workers) × (rows ≤ few) }
     ensures { result ≡ in_cut rows workers worker row }
 {
-    if cut(rows, workers, worker) <= row {
-        return row < cut(rows, workers, worker + 1);
-    }
-    false
+    cut(rows, workers, worker) <= row && row < cut(rows, workers, worker + 1)
 }
 
 // A worker's share of a group of `total` candidates.
@@ -52,13 +50,12 @@ pub fn share_of(crew: Crew, worker: usize, total: usize) -> Share
     requires { (1 ≤ crew.workers) × (worker < crew.workers) × (crew.workers ≤ max_workers) × (total ≤ few) }
     ensures { result ≡ share_of crew worker total }
 {
-    let scheme = crew.scheme;
     let workers = crew.workers as usize;
     Share {
-        scheme: scheme,
-        workers: workers,
-        worker: worker,
-        total: total,
+        scheme: crew.scheme,
+        workers,
+        worker,
+        total,
         from: cut(total, workers, worker),
         to: cut(total, workers, worker + 1),
     }
@@ -68,18 +65,8 @@ pub fn share_of(crew: Crew, worker: usize, total: usize) -> Share
 fn all_or_none(all: bool, first: usize, end: usize) -> Span
     ensures { result ≡ all_span all first end }
 {
-    if all {
-        return Span {
-            from: first,
-            end: end,
-            step: 1,
-        };
-    }
-    Span {
-        from: end,
-        end: end,
-        step: 1,
-    }
+    let from = if all { first } else { end };
+    Span { from, end, step: 1 }
 }
 
 // The inner rows whose numbers are `from` to `to`; the first one has number `ahead`.
@@ -87,25 +74,15 @@ fn clip(from: usize, to: usize, ahead: usize, first: usize, end: usize) -> Span
     requires { (from ≤ few) × (to ≤ few) × (ahead ≤ few + 1) × (first ≤ end) × (end ≤ few) }
     ensures { result ≡ clipped from to ahead first end }
 {
-    let mut begin = first;
-    if ahead < from {
-        begin = first + (from - ahead);
-    }
-    let mut stop = end;
-    if to < ahead + (end - first) {
-        stop = first;
-        if ahead < to {
-            stop = first + (to - ahead);
-        }
-    }
     Span {
-        from: begin,
-        end: stop,
+        from: first + from.saturating_sub(ahead),
+        end: end.min(first + to.saturating_sub(ahead)),
         step: 1,
     }
 }
 
 // What a worker has of driving row `row` of `rows`, whose inner rows are `first` to `end` and whose first candidate has number `ahead`.
+#[tactic(auto, unfolding(crate::specs::Shares::span_by))]
 pub fn span_of(
     share: Share,
     ahead: usize,
@@ -117,34 +94,36 @@ pub fn span_of(
     requires { ShareFits share × (ahead ≤ few) × (rows ≤ few) × (first ≤ end) × (end ≤ few) }
     ensures { result ≡ span_of share ahead rows row first end }
 {
-    let scheme = share.scheme;
     let workers = share.workers;
     let worker = share.worker;
-    match scheme {
+    match share.scheme {
         Scheme::CutCandidates => clip(share.from, share.to, ahead, first, end),
         Scheme::CutRows => all_or_none(in_cut(rows, workers, worker, row), first, end),
         Scheme::DealRows => all_or_none(row % workers == worker, first, end),
         Scheme::DealInner => Span {
             from: first + worker,
-            end: end,
+            end,
             step: workers,
         },
     }
 }
 
 // What a worker has of a driving row after the inner row `inner`, which is its own and has number `number`.
+#[tactic(auto, unfolding(crate::specs::Shares::on_by))]
 pub fn span_on(share: Share, number: usize, inner: usize, end: usize) -> Span
     requires { ShareFits share × (number ≤ few) × (inner < end) × (end ≤ few) }
     ensures { result ≡ on_span share number inner end }
 {
-    let scheme = share.scheme;
-    match scheme {
+    match share.scheme {
         Scheme::CutCandidates => clip(share.from, share.to, number + 1, inner + 1, end),
-        Scheme::CutRows => all_or_none(true, inner + 1, end),
-        Scheme::DealRows => all_or_none(true, inner + 1, end),
+        Scheme::CutRows | Scheme::DealRows => Span {
+            from: inner + 1,
+            end,
+            step: 1,
+        },
         Scheme::DealInner => Span {
             from: inner + share.workers,
-            end: end,
+            end,
             step: share.workers,
         },
     }

@@ -1,15 +1,20 @@
-// Places among the candidates of a group: a driving row and an inner row, both as rows of the memo.
+// Places among the candidates of a group.
 ghost use Rattle.std.specs.Prelude.{◌≡◌};
 ghost use Rattle.shares.specs.Nowhere.{nowhere};
 
-// Where a worker stands: at its next joinable pair, or, with none left, at the end of the group's candidates.
+// Where a candidate stands: the size of its driving set, and its driving row and inner row, both as rows of the memo.
 #[derive(Clone, Copy)]
-pub struct Place {
-    pub left: bool,
+pub struct Spot {
     pub size: usize,
     pub row: usize,
     pub inner: usize,
+}
+
+// Where a worker stands: its next joinable pair and that candidate's number, or, with no pair left, the number of the group's candidates.
+#[derive(Clone, Copy)]
+pub struct Place {
     pub number: usize,
+    pub pair: Option<Spot>,
 }
 
 // With no pair left, of `total` candidates.
@@ -17,10 +22,7 @@ pub fn nowhere(total: usize) -> Place
     ensures { result ≡ nowhere total }
 {
     Place {
-        left: false,
-        size: 0,
-        row: 0,
-        inner: 0,
         number: total,
+        pair: None,
     }
 }

@@ -1,6 +1,6 @@
 -- Laws of writing skip vectors from the last row back.
 use Rattle.std.specs.Prelude.{◌≡◌, refl, ◌⊎◌, Bool, true, false, cond, set}
-use Rattle.std.proofs.Common.{sym, ap₂, ◌∙◌, inl, inr, le_refl, mul-le-mul, le_of_suc-le-suc, lit<, pow_pos, add-one, arith, length-set, length-append, get_or-set_same, get_or-set_other}
+use Rattle.std.proofs.Common.{sym, ap₂, ◌∙◌, inl, inr, le_refl, mul-le-mul, le_of_suc-le-suc, lit<, add-one, arith, length-set, length-append, get_or-set_same, get_or-set_other}
 use Rattle.std.proofs.Math.Path.{ap}
 use mathlib.Core.List.{List, [], ◌∷◌, ◌++◌, map, Memᴰ}
 use Prim.Native.Nat.{ℕ, zero, suc, ◌+◌, ◌-◌, ◌*◌, ◌/◌, ◌^◌, ◌≤◌, ◌<◌}
@@ -80,10 +80,6 @@ module _ (S t : ℕ) (h : Lowest S t) where
   pub lowest-le : single t ≤ S
   lowest-le = omega (arith, (holds-minus S t h.stands).whole)
 
-  -- one table fewer is left
-  pub lowest-less : S - single t < S
-  lowest-less = omega (arith, lowest-le, pow_pos (t - 1))
-
   pub lowest-size : size (S - single t) + 1 ≡ size S
   lowest-size = omega (arith, splits-size (holds-minus S t h.stands), size-pow (t - 1))
 
@@ -126,12 +122,6 @@ module _ (n t k : ℕ) where
 module _ (next t : ℕ) {b : Bool} (e : b ≡ has next t) where
   pub rank-inside : {r : ℕ} → b ≡ true → r ≡ rank next t → r < size next
   rank-inside h f = omega (arith, rank_lt next t (eqb-true (holds next t) 1 (sym e ∙ h)))
-
-  pub value-next : (number : ℕ) (cells : List ℕ) (at : ℕ) {r : ℕ} → b ≡ true → r ≡ rank next t → get_or cells (at + r) 0 ≡ value_of next number cells at t
-  value-next number cells at h f = rw (sym e ∙ h, f)
-
-  pub value-here : (number : ℕ) (cells : List ℕ) (at : ℕ) → b ≡ false → number ≡ value_of next number cells at t
-  value-here number cells at h = rw (sym e ∙ h)
 
 -- ---- one more cell of a row; the cells from `behind` on, which the values are read of, stay as they were
 module _ (behind i : ℕ) (out out₀ : List ℕ) (kept : (j : ℕ) → behind ≤ j → get_or out j 0 ≡ get_or out₀ j 0) where
@@ -239,15 +229,6 @@ module _ (rows : List ℕ) (from to k : ℕ) (z : SizeRows rows from to k 32) wh
         let r = row-ahead 32 (j + 1) S (at + j * k) (at + i * k) (slice (from + i) to rows) out₀ fits.0 (behind-low i h) g (omega (arith, behind-room i h)) in
         let v : out' ≡ sets out₀ (at + j * k) (vectors_from 32 (j + 1) (slice (from + j) to rows)) = rw (row-split b) ((rw (a, g, m, o, d) at w) ∙ r) in
         (ap length v ∙ length-sets out₀ (at + j * k) (vectors_from 32 (j + 1) (slice (from + j) to rows)), v)
-
-  -- all are written
-  pub vectors-done : (out₀ : List ℕ) (at i : ℕ) {out : List ℕ} → i ≡ 0 → out ≡ sets out₀ (at + i * k) (vectors_from 32 (i + 1) (slice (from + i) to rows))
-      → out ≡ sets out₀ at (vectors_from 32 1 (slice from to rows))
-  vectors-done out₀ at i e o =
-      let a : at + 0 * k ≡ at = omega arith in
-      let b : 0 + 1 ≡ 1 = omega arith in
-      let c : from + 0 ≡ from = omega arith in
-      rw (e, a, b, c) at o
 
 -- ---- what callers know
 -- the width does not matter

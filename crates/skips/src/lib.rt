@@ -29,6 +29,7 @@ fn fill_row(set: u64, next: u64, number: u64, out: &mut [u64], at: usize)
     let behind = at + size(set) as usize;
     let mut left = set;
     let mut i = at;
+    // No `for`: the tables are bits of a number, and are taken off it one after another.
     while left != 0 {
         let t = lowest_table(left);
         out[i] = next_cell(next, number, t, out, behind);
@@ -44,9 +45,7 @@ pub fn fill_vectors(sets: &[u64], from: usize, to: usize, k: usize, out: &mut [u
 {
     // Behind the last row stands none: the empty set lacks every table.
     let mut next = 0;
-    let mut i = to - from;
-    while i > 0 {
-        i -= 1;
+    for i in (0..to - from).rev() {
         let set = sets[from + i];
         fill_row(set, next, i as u64 + 2, out, at + i * k);
         next = set;

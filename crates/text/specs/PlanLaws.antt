@@ -1,9 +1,10 @@
 -- From what planning promises to the lines of its answer.
-use Rattle.std.specs.Prelude.{◌≡◌, refl, ℕ, zero, suc, ◌+◌, ◌-◌, ◌^◌, ◌≤◌, ◌<◌, length, get_or}
-use Rattle.std.proofs.Common.{sym, ap, ◌∙◌, subst, arith, pow_pos, length-append}
+use Rattle.std.specs.Prelude.{◌≡◌, refl, ℕ, zero, suc, ◌+◌, ◌-◌, ◌^◌, ◌≤◌, ◌<◌, length, get_or, Result, Ok, Err}
+use Rattle.std.proofs.Common.{sym, ap, ◌∙◌, subst, arith, length-append}
 use mathlib.Core.List.{List, ◌++◌, map, Memᴰ}
 use Rattle.std.proofs.Math.Decide.{dec_lt}
-use Rattle.rules.specs.declared.Verdict.{Verdict}
+use Rattle.rules.specs.declared.refusal.Refusal.{Refusal}
+use Rattle.rules.specs.Verdict.{number_of, told}
 use Rattle.rules.specs.Limits.{max_tables, text_rows, answer_room}
 use Rattle.rules.specs.Sets.{size, single, full}
 use Rattle.rules.specs.Query.{Graph, table_count}
@@ -24,26 +25,31 @@ use Rattle.rules.proofs.laws.Bellman.{least-unique}
 use Rattle.rules.proofs.laws.Picked.{picked-valid, picked-least}
 use Rattle.rules.proofs.laws.Writing.{line_room, plan-room, refusal-room, joins-room}
 use Rattle.rules.proofs.laws.Text.{given-tree}
+use Rattle.digits.specs.declared.Line.{Line}
 use Rattle.digits.specs.Put.{Put}
-use Rattle.digits.specs.PutLaws.{put_then}
+use Rattle.digits.specs.PutLaws.{put_then, put-length}
+use Rattle.writer.specs.declared.joins.Memo.{Memo}
 use Rattle.writer.specs.Plans.{Kept, ToPut}
+use Rattle.reader.specs.LoopLaws.{number-within}
 use Rattle.planner.specs.declared.Answer.{Answer}
 use Rattle.planner.specs.Plans.{memory_of, outcome_of}
 use Rattle.text.specs.Composing.{Answered, Composed}
 
 -- ---- a refusal
 -- "X, number, place": the answer's own
-pub refused-composed : {i : Input} {o : Outcome} {before after : List ℕ} {r : ℕ} → Planned i o → (o.answer.refusal ≡ 0 → ⊥) → o.answer.refusal < 10 ^ 20 → o.answer.place < 10 ^ 20
-    → Put before after 0 r (refusal_line (record { number = o.answer.refusal; place = o.answer.place })) → Composed (verdict i) i before after r
-refused-composed {i} {o} {before} {after} {r} p n l₁ l₂ w = go (dec_lt 0 (verdict i).number)
+pub refused-composed : {i : Input} {o : Outcome} (r : Refusal) {before after : Line} → Planned i o → o.answer ≡ rules.refusal (told r) → r.place < 10 ^ 20
+    → Put before after (refusal_line (told r)) → Composed (verdict i) i before after
+refused-composed {i} {o} r {before} {after} p a l w = go (dec_lt 0 (verdict i).number)
   where
-    go : Dec (0 < (verdict i).number) → Composed (verdict i) i before after r
-    go (no z) = absurd (n (p.given (omega arith)).answer.refusal)
-    go (yes l) =
-        let e = (p.refused l).answer in
-        let v : Verdict = record { number = o.answer.refusal; place = o.answer.place } in
-        let same : v ≡ verdict i = λ t. record { number = (e t).refusal; place = (e t).place } in
-        record { bytes = refusal_line v; lined = record { planned = λ z. absurd (omega (arith, z, l)); refused = λ _. ap refusal_line same }; put = w; short = omega (arith, refusal-room v l₁ l₂) }
+    n : (1 ≤ number_of r.reason) × (number_of r.reason ≤ 25)
+    n = number-within r.reason
+
+    go : Dec (0 < (verdict i).number) → Composed (verdict i) i before after
+    go (no z) = absurd (omega (arith, n.0, ap (λ (x : rules.Answer). x.refusal) a, (p.given (omega arith)).answer.refusal))
+    go (yes z) =
+        let e = sym a ∙ (p.refused z).answer in
+        let same : told r ≡ verdict i = λ t. record { number = (e t).refusal; place = (e t).place } in
+        record { bytes = refusal_line (told r); lined = record { planned = λ y. absurd (omega (arith, y, z)); refused = λ _. ap refusal_line same }; put = w; short = omega (arith, refusal-room (told r) (omega (arith, n.1)) l) }
 
 -- ---- a plan
 -- an answer that is no refusal is a plan's
@@ -96,16 +102,16 @@ module _ {i : Input} {o : Outcome} (blank : i.lent.sets ≡ blanks text_rows) (e
   stands : (S : ℕ) → Memᴰ S (memo graph) → (j : ℕ) × (j < length o.left.sets) × (get_or o.left.sets j 0 ≡ S)
   stands S m = let p = in-at 0 (memo graph) S m in (p.0, omega (arith, p.1, a.rows, long), set_at p.0 p.1 ∙ p.2)
 
-  pub kept_of : Kept i.query (table_count i.query.graph) o.left.sets o.left.estimates o.left.costs o.left.outers o.left.methods
-  kept_of =
-      let c = a.checked.columns in
-      let fit : length (map (estimate graph) (memo graph)) ≤ length i.lent.estimates = omega (arith, length-map (estimate graph) (memo graph), a.rows, c.estimates) in
+  pub kept_of : (m : Memo) → m.tables ≡ table_count i.query.graph → m.sets.now ≡ o.left.sets → m.estimates.now ≡ o.left.estimates → m.costs.now ≡ o.left.costs → m.outers.now ≡ o.left.outers → m.methods.now ≡ o.left.methods → Kept i.query m
+  kept_of m n s e c o' w =
+      let k = a.checked.columns in
+      let fit : length (map (estimate graph) (memo graph)) ≤ length i.lent.estimates = omega (arith, length-map (estimate graph) (memo graph), a.rows, k.estimates) in
       record {
-        tables = refl;
-        few = a.checked.sound.graph.few-tables;
-        stands = stands;
-        lengths = (ap length f.estimates ∙ over-length (map (estimate graph) (memo graph)) i.lent.estimates fit ∙ c.estimates ∙ sym long, f.costs.length-kept ∙ c.costs ∙ sym long, f.outers.length-kept ∙ c.outers ∙ sym long, f.methods.length-kept ∙ c.methods ∙ sym long);
-        holds = λ j m l. says j (dec_lt j (length (memo graph))) m;
+        tables = n;
+        few = omega (arith, n, a.checked.sound.graph.few-tables);
+        stands = rw s stands;
+        lengths = rw (s, e, c, o', w) (ap length f.estimates ∙ over-length (map (estimate graph) (memo graph)) i.lent.estimates fit ∙ k.estimates ∙ sym long, f.costs.length-kept ∙ k.costs ∙ sym long, f.outers.length-kept ∙ k.outers ∙ sym long, f.methods.length-kept ∙ k.methods ∙ sym long);
+        holds = rw (s, e, c, o', w) (λ j m l. says j (dec_lt j (length (memo graph))) m);
       }
 
 -- a plan's lines are short
@@ -117,16 +123,16 @@ lines-short {i} e g =
     omega (arith, joins-room i.query s t.tree (picked-valid i.query t.tree t.picked), ap size t.covers, size-le n (full n) (below_all i.query.graph (full n) s.connected), s.graph.few-tables)
 
 -- the plan's own tree is to be put behind the P line, and there is room for it
-pub to-put : {i : Input} {o : Outcome} {at room : ℕ} → (verdict i).number ≡ 0 → Given i o → o.answer.best < 10 ^ 20 → o.answer.pairs < 10 ^ 20
-    → at ≡ 0 + length (plan_line o.answer.best o.answer.pairs) → answer_room ≤ room → ToPut i.query (full (table_count i.query.graph)) at room
+pub to-put : {i : Input} {o : Outcome} {before mid : Line} → (verdict i).number ≡ 0 → Given i o → o.answer.best < 10 ^ 20 → o.answer.pairs < 10 ^ 20
+    → Put before mid (plan_line o.answer.best o.answer.pairs) → before.at + answer_room ≤ length before.out.now → ToPut i.query (full (table_count i.query.graph)) mid
 to-put {i} {o} e g l₁ l₂ p room =
     let t = given-tree e g in
-    record { tree = t.tree; picked = t.picked; covers = t.covers; room-left = omega (arith, p, room, lines-short e g, plan-room o.answer.best o.answer.pairs l₁ l₂) }
+    record { tree = t.tree; picked = t.picked; covers = t.covers; room-left = omega (arith, p.end, put-length p, room, lines-short e g, plan-room o.answer.best o.answer.pairs l₁ l₂) }
 
 -- P and J lines, one behind the other, are the answer
-pub planned-composed : {i : Input} {o : Outcome} {before mid after : List ℕ} {at r : ℕ} → (verdict i).number ≡ 0 → (g : Given i o) → o.answer.best < 10 ^ 20 → o.answer.pairs < 10 ^ 20
-    → Put before mid 0 at (plan_line o.answer.best o.answer.pairs) → ((t : Tree) → Picked i.query t → tables_of t ≡ full (table_count i.query.graph) → Put mid after at r (join_lines i.query t))
-    → Composed (verdict i) i before after r
+pub planned-composed : {i : Input} {o : Outcome} {before mid after : Line} → (verdict i).number ≡ 0 → (g : Given i o) → o.answer.best < 10 ^ 20 → o.answer.pairs < 10 ^ 20
+    → Put before mid (plan_line o.answer.best o.answer.pairs) → ((t : Tree) → Picked i.query t → tables_of t ≡ full (table_count i.query.graph) → Put mid after (join_lines i.query t))
+    → Composed (verdict i) i before after
 planned-composed {i} {o} e g l₁ l₂ p joins =
     let tree = given-tree e g in
     let c = g.answer in
@@ -141,42 +147,41 @@ planned-composed {i} {o} e g l₁ l₂ p joins =
     }
 
 -- ---- what planning answered
-module _ {i : Input} {n : ℕ} {a : Answer} {sets estimates costs outers methods : List ℕ} (z : Answered i n a sets estimates costs outers methods) where
-  pub answered-refused : {before after : List ℕ} {r : ℕ} → (a.refusal ≡ 0 → ⊥) → a.refusal < 10 ^ 20 → a.place < 10 ^ 20
-      → Put before after 0 r (refusal_line (record { number = a.refusal; place = a.place })) → Composed (verdict i) i before after r
-  answered-refused = refused-composed z.planned
+pub answered_is : {i : Input} {a b : Result Answer Refusal} {m : Memo} → a ≡ b → Answered i a m → Answered i b m
+answered_is {i} {a} {b} {m} e z = subst (λ (x : Result Answer Refusal). Answered i x m) e z
 
-  module _ (e : a.refusal ≡ 0) where
-    none : (verdict i).number ≡ 0
-    none = (given-of z.planned e).0
+pub answered-refused : {i : Input} {r : Refusal} {m : Memo} {before after : Line} → Answered i (Err r) m → r.place < 10 ^ 20
+    → Put before after (refusal_line (told r)) → Composed (verdict i) i before after
+answered-refused {i} {r} z = refused-composed r z.planned refl
 
-    abbrev given : Given i (outcome_of a (memory_of sets estimates costs outers methods z.skips z.log_workers z.log_driving z.log_inner z.log_costs))
-    given = (given-of z.planned e).1
+module _ {i : Input} {a : Answer} {m : Memo} (z : Answered i (Ok a) m) where
+  none : (verdict i).number ≡ 0
+  none = (given-of z.planned refl).0
 
-    pub answered-few : n ≤ max_tables
-    answered-few = omega (arith, z.tables, (accepted i none).checked.sound.graph.few-tables)
+  abbrev given : Given i (outcome_of (Ok a) (memory_of m.sets.now m.estimates.now m.costs.now m.outers.now m.methods.now z.skips z.log_workers z.log_driving z.log_inner z.log_costs))
+  given = (given-of z.planned refl).1
 
-    pub answered-kept : Kept i.query n sets estimates costs outers methods
-    answered-kept = rw z.tables (kept_of z.blank none given)
+  pub answered-few : m.tables ≤ max_tables
+  answered-few = omega (arith, z.tables, (accepted i none).checked.sound.graph.few-tables)
 
-    module _ (best : a.best < 10 ^ 20) (pairs : a.pairs < 10 ^ 20) {before mid : List ℕ} {at : ℕ} (p : Put before mid 0 at (plan_line a.best a.pairs)) where
-      pub answered-put : {S : ℕ} → S ≡ full n → answer_room ≤ length mid → ToPut i.query S at (length mid)
-      answered-put s room = rw (s, z.tables) (to-put none given best pairs p.end room)
+  pub answered-kept : Kept i.query m
+  answered-kept = kept_of z.blank none given m z.tables refl refl refl refl refl
 
-      pub answered-planned : {S : ℕ} {after : List ℕ} {r : ℕ} → S ≡ full n → ((t : Tree) → Picked i.query t → tables_of t ≡ S → Put mid after at r (join_lines i.query t)) → Composed (verdict i) i before after r
-      answered-planned s joins = planned-composed none given best pairs p (λ t k c. joins t k (c ∙ ap full (sym z.tables) ∙ sym s))
+  module _ (best : a.best < 10 ^ 20) (pairs : a.pairs < 10 ^ 20) {before mid : Line} (p : Put before mid (plan_line a.best a.pairs)) where
+    pub answered-put : {S : ℕ} → S ≡ full m.tables → before.at + answer_room ≤ length before.out.now → ToPut i.query S mid
+    answered-put s room = rw (s, z.tables) (to-put none given best pairs p room)
+
+    pub answered-planned : {S : ℕ} {after : Line} → S ≡ full m.tables → ((t : Tree) → Picked i.query t → tables_of t ≡ S → Put mid after (join_lines i.query t)) → Composed (verdict i) i before after
+    answered-planned s joins = planned-composed none given best pairs p (λ t k c. joins t k (c ∙ ap full (sym z.tables) ∙ sym s))
 
 -- "the P line" fits any buffer of the entry's own
-pub plan-fits : (best pairs room : ℕ) → best < 10 ^ 20 → pairs < 10 ^ 20 → answer_room ≤ room → 0 + length (plan_line best pairs) ≤ room
-plan-fits best pairs room l₁ l₂ h = omega (arith, plan-room best pairs l₁ l₂)
+pub plan-fits : (line : Line) (best pairs : ℕ) → best < 10 ^ 20 → pairs < 10 ^ 20 → line.at + answer_room ≤ length line.out.now → line.at + length (plan_line best pairs) ≤ length line.out.now
+plan-fits line best pairs l₁ l₂ h = omega (arith, plan-room best pairs l₁ l₂)
 
 -- and so does an X line
-pub refusal-fits : (v : Verdict) (room : ℕ) → v.number < 10 ^ 20 → v.place < 10 ^ 20 → answer_room ≤ room → 0 + length (refusal_line v) ≤ room
-refusal-fits v room l₁ l₂ h = omega (arith, refusal-room v l₁ l₂)
+pub refusal-fits : (line : Line) (r : Refusal) (n : ℕ) → n ≡ number_of r.reason → r.place < 10 ^ 20 → line.at + answer_room ≤ length line.out.now → line.at + length (refusal_line (record { number = n; place = r.place })) ≤ length line.out.now
+refusal-fits line r n e l h = rw e (omega (arith, refusal-room (told r) (omega (arith, (number-within r.reason).1)) l))
 
 -- all tables, as the code finds them
 pub all-tables : (n : ℕ) {s : ℕ} → s ≡ single (n + 1) → s - 1 ≡ full n
 all-tables n {s} e = let k : n + 1 - 1 ≡ n = omega arith in rw (e, k) refl
-
-pub some-tables : (n : ℕ) {s : ℕ} → s ≡ single (n + 1) → 1 ≤ s
-some-tables n e = omega (arith, e, pow_pos (n + 1 - 1))

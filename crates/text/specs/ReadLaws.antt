@@ -1,39 +1,39 @@
 -- From the reading of a text to its answer, and from there to the lent buffer.
-use Rattle.std.specs.Prelude.{◌≡◌, refl, List, ℕ, ◌-◌, ◌^◌, ◌≤◌, ◌<◌, length, take, replicate}
+use Rattle.std.specs.Prelude.{◌≡◌, refl, List, ℕ, ◌+◌, ◌^◌, ◌≤◌, ◌<◌, ◌++◌, length, take, drop}
 use Rattle.std.proofs.Common.{sym, ap, ◌∙◌, subst, arith}
 use Rattle.std.proofs.Math.Decide.{ℕ_discrete}
-use Rattle.std.proofs.lemmas.List.{length-replicate}
-use Rattle.rules.specs.declared.Verdict.{Verdict}
+use Rattle.std.proofs.lemmas.List.Edits.{sets}
+use Rattle.rules.specs.declared.refusal.Refusal.{Refusal}
+use Rattle.rules.specs.Verdict.{Verdict, none, told}
 use Rattle.rules.specs.Limits.{answer_room}
-use Rattle.rules.specs.Lists.{over}
 use Rattle.rules.specs.Refusals.{Input, verdict}
 use Rattle.rules.specs.Reading.{Read, Reading, reading}
 use Rattle.rules.specs.Writing.{refusal_line}
-use Rattle.rules.specs.Text.{text_input, input_for, input_of, text_verdict, Lined, Answers, Written}
+use Rattle.rules.specs.Text.{input_for, input_of, text_verdict, Lined, Answers, Written}
 use Rattle.rules.proofs.laws.Writing.{refusal-room}
 use Rattle.rules.proofs.laws.Text.{good_none, unread-verdict, unplanned-verdict}
-use Rattle.query.specs.Lists.{query_of}
 use Rattle.memo.specs.LayoutLaws.{front}
 use Rattle.fields.specs.declared.kinds.Progress.{Progress}
+use Rattle.reader.specs.Lists.{Lists}
+use Rattle.reader.specs.LoopLaws.{number-within}
 use Rattle.reader.specs.Records.{read_of}
+use Rattle.digits.specs.declared.Line.{Line}
 use Rattle.digits.specs.Put.{Put}
+use Rattle.digits.specs.PutLaws.{put-length}
 use Rattle.text.specs.Composing.{Composed}
 
--- a column of n cells, as it was read into, holds what was read
-pub held : {r l : ℕ} (n : ℕ) → r ≤ n → l ≡ length {A = ℕ} (replicate n 0) → r ≤ l
-held n h e = let z : ℕ = 0 in omega (arith, length-replicate n z)
-
 -- ---- a text that is not good
-pub read-refused : (text : List ℕ) {v : Verdict} {s : Read} {before after : List ℕ} {r : ℕ} → record { verdict = v; read = s } ≡ reading text → (v.number ≡ 0 → ⊥) → v.number < 10 ^ 20 → v.place < 10 ^ 20
-    → Put before after 0 r (refusal_line v) → Composed (text_verdict text) (input_of text) before after r
-read-refused text {v} e n l₁ l₂ w =
-    let same : v ≡ (reading text).verdict = ap (λ (x : Reading). x.verdict) e in
-    let told : text_verdict text ≡ v = unread-verdict text (λ z. n (ap (λ (x : Verdict). x.number) same ∙ z)) ∙ sym same in
+pub read-refused : (text : List ℕ) (r : Refusal) {s : Read} {before after : Line} → record { verdict = told r; read = s } ≡ reading text → r.place < 10 ^ 20
+    → Put before after (refusal_line (told r)) → Composed (text_verdict text) (input_of text) before after
+read-refused text r e l w =
+    let n = number-within r.reason in
+    let same : told r ≡ (reading text).verdict = ap (λ (x : Reading). x.verdict) e in
+    let whole : text_verdict text ≡ told r = unread-verdict text (λ z. absurd (omega (arith, n.0, z, ap (λ (x : Verdict). x.number) same))) ∙ sym same in
     record {
-      bytes = refusal_line v;
-      lined = record { planned = λ z. absurd (n (ap (λ (x : Verdict). x.number) (sym told) ∙ z)); refused = λ _. ap refusal_line (sym told) };
+      bytes = refusal_line (told r);
+      lined = record { planned = λ z. absurd (omega (arith, n.0, z, ap (λ (x : Verdict). x.number) whole)); refused = λ _. ap refusal_line (sym whole) };
       put = w;
-      short = omega (arith, refusal-room v l₁ l₂);
+      short = omega (arith, refusal-room (told r) (omega (arith, n.1)) l);
     }
 
 -- ---- a good one: what the library answers is the answer
@@ -44,48 +44,28 @@ good-lined text {bytes} good l = go (ℕ_discrete (verdict (input_of text)).numb
     go (yes e) = record { planned = λ _. l.planned e; refused = λ p. absurd (omega (arith, p, good_none (record { good = good; accepted-query = e }))) }
     go (no n) = subst (λ (v : Verdict). Lined v (input_of text) bytes) (sym (unplanned-verdict text good n)) l
 
--- the code cuts a column from 0 on
-cut-from : (n : ℕ) → n - 0 ≡ n
-cut-from n = omega arith
-
--- what the code has planned: the columns, each cut to its records
-abbrev cut_input : Progress → (rows scans left right divisors fixed outer inner result : List ℕ) → Input
-cut_input p rows scans left right divisors fixed outer inner result =
-    text_input
-    (query_of (take (p.tables - 0) rows) (take (p.tables - 0) scans) (take (p.edges - 0) left) (take (p.edges - 0) right) (take (p.edges - 0) divisors) (take (p.methods - 0) fixed) (take (p.methods - 0) outer) (take (p.methods - 0) inner) (take (p.methods - 0) result))
-    p.workers p.scheme
-
-pub read-planned : (text : List ℕ) (p : Progress) (rows scans left right divisors fixed outer inner result : List ℕ) {v : Verdict} {before after : List ℕ} {r : ℕ}
-    → record { verdict = v; read = read_of p rows scans left right divisors fixed outer inner result } ≡ reading text → v.number ≡ 0
-    → Composed (verdict (cut_input p rows scans left right divisors fixed outer inner result)) (cut_input p rows scans left right divisors fixed outer inner result) before after r → Composed (text_verdict text) (input_of text) before after r
-read-planned text p rows scans left right divisors fixed outer inner result {v} {before} {after} {r} e z c =
-    let t = cut-from p.tables in
-    let u = cut-from p.edges in
-    let m = cut-from p.methods in
-    let whole : cut_input p rows scans left right divisors fixed outer inner result ≡ input_for (read_of p rows scans left right divisors fixed outer inner result)
-    = λ k. text_input (query_of (take (t k) rows) (take (t k) scans) (take (u k) left) (take (u k) right) (take (u k) divisors) (take (m k) fixed) (take (m k) outer) (take (m k) inner) (take (m k) result)) p.workers p.scheme in
-    let same : cut_input p rows scans left right divisors fixed outer inner result ≡ input_of text = whole ∙ ap (λ (x : Reading). input_for x.read) e in
-    let d : Composed (verdict (input_of text)) (input_of text) before after r = subst (λ (i : Input). Composed (verdict i) i before after r) same c in
-    record { bytes = d.bytes; lined = good-lined text (ap (λ (x : Reading). x.verdict.number) (sym e) ∙ z) d.lined; put = d.put; short = d.short }
+-- what the code has planned is what was read
+pub read-planned : (text : List ℕ) (p : Progress) (a : Lists) {before after : Line} → record { verdict = none; read = read_of p a } ≡ reading text
+    → Composed (verdict (input_for (read_of p a))) (input_for (read_of p a)) before after → Composed (text_verdict text) (input_of text) before after
+read-planned text p a {before} {after} e c =
+    let same : input_for (read_of p a) ≡ input_of text = ap (λ (x : Reading). input_for x.read) e in
+    let d : Composed (verdict (input_of text)) (input_of text) before after = subst (λ (i : Input). Composed (verdict i) i before after) same c in
+    record { bytes = d.bytes; lined = good-lined text (ap (λ (x : Reading). x.verdict.number) (sym e)) d.lined; put = d.put; short = d.short }
 
 -- ---- the lent buffer
-pub written-long : (text : List ℕ) {zeros lines old : List ℕ} {r : ℕ} → Composed (text_verdict text) (input_of text) zeros lines r → length old < r → Written text old old 0
-written-long text c l = record {
-  bytes = c.bytes;
-  answer = c.lined;
-  short = c.short;
-  fits = λ k. absurd (omega (arith, k, l, c.put.end));
-  long = λ _. (refl, refl);
-}
+-- the lines end within the entry's own
+pub lines-within : {v : Verdict} {i : Input} {start end : Line} → Composed v i start end → start.at + answer_room ≤ length start.out.now → end.at ≤ length end.out.now
+lines-within c room = omega (arith, c.put.end, put-length c.put, c.short, room)
 
-pub written-fits : (text : List ℕ) {zeros lines old new : List ℕ} {r : ℕ} → Composed (text_verdict text) (input_of text) zeros lines r → answer_room ≤ length zeros → r ≤ length old → new ≡ over (take (r - 0) lines) old → Written text old new r
-written-fits text {zeros} {lines} {old} {new} {r} c room l w =
-    let e : r ≡ length c.bytes = omega (arith, c.put.end) in
-    let f : take r lines ≡ c.bytes = front c.bytes zeros (omega (arith, c.short, room)) e c.put.written in
+pub written-fits : (text : List ℕ) {start end : Line} {old copied : List ℕ} → Composed (text_verdict text) (input_of text) start end → start.at ≡ 0 → answer_room ≤ length start.out.now → end.at ≤ length old → copied ≡ take end.at end.out.now → Written text old (copied ++ drop end.at old) end.at
+written-fits text {start} {end} {old} {copied} c z room l w =
+    let e : end.at ≡ length c.bytes = omega (arith, z, c.put.end) in
+    let p : end.out.now ≡ sets start.out.now 0 c.bytes = rw z at c.put.written in
+    let f : take end.at end.out.now ≡ c.bytes = front c.bytes start.out.now (omega (arith, c.short, room)) e p in
     record {
       bytes = c.bytes;
       answer = c.lined;
       short = c.short;
-      fits = λ _. (e, w ∙ ap (λ (n : ℕ). over (take n lines) old) (cut-from r) ∙ ap (λ (x : List ℕ). over x old) f);
+      fits = λ _. (e, rw (w, f, e) refl);
       long = λ k. absurd (omega (arith, k, l, e));
     }

@@ -1,172 +1,143 @@
 // The text entry's work: a text's bytes to the bytes of its answer.
 #![tactic(auto)]
 
-ghost use Rattle.std.specs.Prelude.{◌≡◌, ◌≤◌, length};
+ghost use Rattle.std.specs.Prelude.{◌≡◌, ◌≤◌, ◌+◌, length};
 ghost use Rattle.rules.specs.Limits.{answer_room};
-ghost use Rattle.rules.specs.Lists.{over};
 ghost use Rattle.rules.specs.Refusals.{Input, verdict};
+ghost use Rattle.rules.specs.Verdict.{told};
 ghost use Rattle.rules.specs.Text.{text_input, input_of, text_verdict, Written};
-ghost use Rattle.query.specs.Lists.{query_of};
+ghost use Rattle.rules.specs.Writing.{refusal_line};
+ghost use Rattle.query.specs.Lists.{query_in};
+ghost use Rattle.digits.specs.Put.{Put};
 ghost use Rattle.text.specs.Composing.{Answered, Composed};
 
+use digits::Line;
 use planner::{Answer, plan};
+use query::lists::Query;
+use reader::columns::Columns;
 use reader::reading::read;
-use rules::Verdict;
+use rules::refusal::Refusal;
 use sets::single;
-use writer::joins::put_joins;
+use writer::joins::{Memo, put_joins};
 use writer::lines::{put_plan, put_refusal};
 
-// One list to the start of another.
-fn copy(from: &[u8], to: &mut [u8])
-    requires { length from.now ≤ length to.old }
-    ensures { to.new ≡ over from.now to.old }
+// The X line of a refusal.
+fn put_refused(line: &mut Line, refusal: Refusal)
+    requires { line.old.at + answer_room ≤ length line.old.out.now }
+    ensures { Put line.old line.new (refusal_line (told refusal)) }
 {
-    for i in 0..from.len() {
-        to[i] = from[i];
-    }
+    put_refusal(line, refusal.reason.number(), refusal.place);
 }
 
-// Writes what planning answered for n tables: an X line, or a P line and the joins that stand in the memo's rows.
-fn put_answer(
-    out: &mut [u8],
-    n: u64,
-    answer: Answer,
-    sets: &[u64],
-    estimates: &[u64],
-    costs: &[u64],
-    outers: &[u64],
-    methods: &[u64],
-) -> usize
-    requires room { answer_room ≤ length out.old }
-    requires answered { (i : Input) × Answered i n answer sets.now estimates.now costs.now outers.now methods.now }
-    ensures { (i : Input) → Answered i n answer sets.now estimates.now costs.now outers.now methods.now → Composed (verdict i) i out.old out.new result }
+// Writes what planning answered: an X line, or a P line and the joins that stand in the memo.
+fn put_answer(line: &mut Line, planned: Result<Answer, Refusal>, memo: &Memo)
+    requires room { line.old.at + answer_room ≤ length line.old.out.now }
+    requires answered { (i : Input) × Answered i planned memo.now }
+    ensures { (i : Input) → Answered i planned memo.now → Composed (verdict i) i line.old line.new }
 {
-    if answer.refusal != 0 {
-        return put_refusal(
-            out,
-            0,
-            Verdict {
-                number: answer.refusal,
-                place: answer.place,
-            },
-        );
+    match planned {
+        Ok(answer) => {
+            put_plan(line, answer.best, answer.pairs);
+            put_joins(line, single(memo.tables + 1) - 1, memo);
+        }
+        Err(refusal) => put_refused(line, refusal),
     }
-    let joins = put_plan(out, 0, answer.best, answer.pairs);
-    let all = single(n + 1) - 1;
-    put_joins(out, joins, n, all, sets, estimates, costs, outers, methods)
 }
 
 // Plans what was read, in memory of its own, and writes the answer.
-fn plan_read(
-    out: &mut [u8],
-    rows: &[u64],
-    scans: &[u64],
-    left: &[u64],
-    right: &[u64],
-    divisors: &[u64],
-    fixed: &[u64],
-    outer: &[u64],
-    inner: &[u64],
-    res: &[u64],
-    workers: u64,
-    scheme: u64,
-) -> usize
-    requires { answer_room ≤ length out.old }
-    ensures { Composed (verdict (text_input (query_of rows.now scans.now left.now right.now divisors.now fixed.now outer.now inner.now res.now) workers scheme)) (text_input (query_of rows.now scans.now left.now right.now divisors.now fixed.now outer.now inner.now res.now) workers scheme) out.old out.new result }
+fn plan_read(line: &mut Line, query: &Query, workers: u64, scheme: u64)
+    requires { line.old.at + answer_room ≤ length line.old.out.now }
+    ensures { Composed (verdict (text_input (query_in query.now) workers scheme)) (text_input (query_in query.now) workers scheme) line.old line.new }
 {
-    let turns = [0u64; 0];
     let mut sets = [0u64; 1023];
     let mut estimates = [0u64; 1023];
     let mut costs = [0u64; 1023];
     let mut outers = [0u64; 1023];
     let mut methods = [0u64; 1023];
-    let mut skips = [0u64; 5120];
-    let mut log_workers = [0u64; 0];
-    let mut log_driving = [0u64; 0];
-    let mut log_inner = [0u64; 0];
-    let mut log_costs = [0u64; 0];
-    let answer = plan(
-        rows,
-        scans,
-        left,
-        right,
-        divisors,
-        fixed,
-        outer,
-        inner,
-        res,
+    let planned = plan(
+        query.rows,
+        query.scans,
+        query.left,
+        query.right,
+        query.divisors,
+        query.fixed,
+        query.per_outer,
+        query.per_inner,
+        query.per_result,
         workers,
         scheme,
-        &turns,
+        &[],
         &mut sets,
         &mut estimates,
         &mut costs,
         &mut outers,
         &mut methods,
-        &mut skips,
-        &mut log_workers,
-        &mut log_driving,
-        &mut log_inner,
-        &mut log_costs,
+        &mut [0u64; 5120],
+        &mut [],
+        &mut [],
+        &mut [],
+        &mut [],
     );
-    put_answer(
-        out,
-        rows.len() as u64,
-        answer,
-        &sets,
-        &estimates,
-        &costs,
-        &outers,
-        &methods,
-    )
+    let tables = query.rows.len() as u64;
+    let memo = Memo {
+        tables,
+        sets: &sets,
+        estimates: &estimates,
+        costs: &costs,
+        outers: &outers,
+        methods: &methods,
+    };
+    put_answer(line, planned, &memo);
 }
 
-// The answer to a text, at the start of `out`, which any answer fits; and its length.
-fn compose(text: &[u8], out: &mut [u8]) -> usize
-    requires { answer_room ≤ length out.old }
-    ensures { Composed (text_verdict text.now) (input_of text.now) out.old out.new result }
+// The answer to a text, where any answer fits.
+fn compose(text: &[u8], line: &mut Line)
+    requires { line.old.at + answer_room ≤ length line.old.out.now }
+    ensures { Composed (text_verdict text.now) (input_of text.now) line.old line.new }
 {
-    let mut rows = [0u64; 16];
-    let mut scans = [0u64; 16];
-    let mut left = [0u64; 120];
-    let mut right = [0u64; 120];
-    let mut divisors = [0u64; 120];
-    let mut fixed = [0u64; 4];
-    let mut outer = [0u64; 4];
-    let mut inner = [0u64; 4];
-    let mut result = [0u64; 4];
-    let held = read(
-        text,
-        &mut rows,
-        &mut scans,
-        &mut left,
-        &mut right,
-        &mut divisors,
-        &mut fixed,
-        &mut outer,
-        &mut inner,
-        &mut result,
-    );
-    if held.verdict.number != 0 {
-        return put_refusal(out, 0, held.verdict);
+    let mut columns = Columns {
+        rows: &mut [0u64; 16],
+        scans: &mut [0u64; 16],
+        left: &mut [0u64; 120],
+        right: &mut [0u64; 120],
+        divisors: &mut [0u64; 120],
+        fixed: &mut [0u64; 4],
+        per_outer: &mut [0u64; 4],
+        per_inner: &mut [0u64; 4],
+        per_result: &mut [0u64; 4],
+    };
+    match read(text, &mut columns) {
+        Ok(progress) => {
+            let Columns {
+                rows,
+                scans,
+                left,
+                right,
+                divisors,
+                fixed,
+                per_outer,
+                per_inner,
+                per_result,
+                ..
+            } = columns;
+            let tables = progress.tables;
+            let edges = progress.edges;
+            let methods = progress.methods;
+            let query = Query {
+                rows: &rows[..tables],
+                scans: &scans[..tables],
+                left: &left[..edges],
+                right: &right[..edges],
+                divisors: &divisors[..edges],
+                fixed: &fixed[..methods],
+                per_outer: &per_outer[..methods],
+                per_inner: &per_inner[..methods],
+                per_result: &per_result[..methods],
+            };
+            plan_read(line, &query, progress.workers, progress.scheme);
+        }
+        Err(stopped) => put_refused(line, stopped.refusal),
     }
-    let tables = held.progress.tables;
-    let edges = held.progress.edges;
-    let ways = held.progress.methods;
-    plan_read(
-        out,
-        &rows[0..tables],
-        &scans[0..tables],
-        &left[0..edges],
-        &right[0..edges],
-        &divisors[0..edges],
-        &fixed[0..ways],
-        &outer[0..ways],
-        &inner[0..ways],
-        &result[0..ways],
-        held.progress.workers,
-        held.progress.scheme,
-    )
 }
 
 // Plans the query of a text, and writes the answer to the start of a lent buffer: its length, or 0 and nothing written where it
@@ -176,10 +147,15 @@ pub fn plan_bytes(query: &[u8], answer: &mut [u8]) -> usize
 {
     let room = answer.len();
     let mut lines = [0u8; 4096];
-    let length = compose(query, &mut lines);
+    let mut line = Line {
+        out: &mut lines,
+        at: 0,
+    };
+    compose(query, &mut line);
+    let length = line.at;
     if room < length {
         return 0;
     }
-    copy(&lines[0..length], answer);
+    answer[..length].copy_from_slice(&line.out[..length]);
     length
 }

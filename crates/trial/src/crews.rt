@@ -1,111 +1,114 @@
 // Queries that are planned by twelve crews each. The first crew is one worker with no list of turns: answer, memo and skip vectors of
 // each crew are held to its, and each log to the turns that are played.
-use super::generate::set_crew;
-use super::hold::enumerate_query;
-use super::kinds::{ANSWERS, KINDS, LOG_KIND, apart, lent_of, list_of};
-use super::memory::{
-    COUNTS, FIRST, KEPT, LENT_CELLS, LENT_LOG, LENT_ROWS, Memory, PAIRS, TALLY, add, either, get,
-    number, put, sum,
-};
-use super::plan_in::{MARK, plan_kept};
-use super::play::play;
+use super::compare::apart;
+use super::generate::{draw_crew, listed};
+use super::hold::Enumerated;
+use super::input::{Crew, Scheme};
+use super::plan_in::{Kept, Lent, plan_kept};
+use super::play::{Entry, counts};
+use super::random::Random;
+use std::alloc::{AllocError, Global};
 
 const QUERIES: u64 = 200;
 
 const CREWS: u64 = 12;
 
-// Lists that answers and memos are kept in.
-const SAVED: u64 = 14_336;
+// All crews are lent as much: seven tables have 127 sets, 448 cells and 966 pairs.
+const LENT: Lent = Lent {
+    rows: 128,
+    cells: 456,
+    log: 1024,
+};
 
-// An empty list, a short one, one that often ends within a size, and one longer than the work.
-fn length_of(kind: u64) -> u64 {
-    match kind % 4 {
-        0 => 0,
-        1 => 3,
-        2 => 40,
-        _ => 1_200,
+#[derive(Clone, Copy, Default)]
+pub struct Tally {
+    pub queries: u64,
+    pub plans: u64,
+    pub comparisons: u64,
+    pub differences: u64,
+    pub entries: u64,
+    pub faults: u64,
+}
+
+impl Tally {
+    // Holds a column to the first crew's.
+    fn hold(&mut self, column: &[u64], first: &[u64]) {
+        self.comparisons = self.comparisons.saturating_add(column.len() as u64);
+        self.differences = self
+            .differences
+            .saturating_add(apart(column, first, |cell| *cell));
+    }
+
+    fn hold_to_first(&mut self, kept: &Kept, first: &Kept) {
+        self.hold(&kept.answer.shared, &first.answer.shared);
+        self.hold(&kept.memory.sets, &first.memory.sets);
+        self.hold(&kept.memory.estimates, &first.memory.estimates);
+        self.hold(&kept.memory.costs, &first.memory.costs);
+        self.hold(&kept.memory.outers, &first.memory.outers);
+        self.hold(&kept.memory.methods, &first.memory.methods);
+        self.hold(&kept.memory.skips, &first.memory.skips);
+    }
+
+    fn find_faults(&mut self, found: u64) {
+        self.faults = self.faults.saturating_add(found);
+    }
+
+    // Holds a log and the counts of its workers to the turns that were played, spare cells too.
+    fn test_log(&mut self, kept: &Kept, log: &[Entry]) {
+        self.entries = self.entries.saturating_add(log.len() as u64);
+        self.find_faults(apart(&kept.answer.counts, &counts(log), |count| *count));
+        self.find_faults(apart(&kept.memory.log_workers, log, |entry| entry.worker));
+        self.find_faults(apart(&kept.memory.log_driving, log, |entry| entry.driving));
+        self.find_faults(apart(&kept.memory.log_inner, log, |entry| entry.inner));
+        self.find_faults(apart(&kept.memory.log_costs, log, |entry| entry.cost));
     }
 }
 
 // Crew k of a query. Over the queries each number of workers meets each scheme and each length of list.
-fn set_crew_of(m: &mut Memory, number: u64, k: u64) {
+fn crew_of(alloc: Global, random: &mut Random, number: u64, k: u64) -> Result<Crew, AllocError> {
     if k == 0 {
-        set_crew(m, 1, 1, 0);
-        return;
+        return draw_crew(alloc, random, 1, Scheme::CutCandidates, 0);
     }
-    let workers = sum(sum(number, k) % 8, 1);
-    let scheme = sum(sum(number >> 3, k) % 4, 1);
-    set_crew(m, workers, scheme, length_of(sum(number / 3, k >> 1)));
+    let workers = number.saturating_add(k) % 8 + 1;
+    let scheme = Scheme::numbered((number >> 3).saturating_add(k));
+    let turns = listed((number / 3).saturating_add(k >> 1), 1_200);
+    draw_crew(alloc, random, workers, scheme, turns)
 }
 
-// What the first crew left.
-fn save(m: &mut Memory) {
-    for i in 0..SAVED {
-        let cell = get(m, KEPT, i);
-        put(m, FIRST, i, cell);
-    }
-}
-
-// How many cells of a kind are held to the first crew's: of an answer not the counts.
-fn held_of(m: &Memory, kind: u64) -> u64 {
-    either(kind == ANSWERS, 6, lent_of(m, kind))
-}
-
-fn hold_kind(m: &mut Memory, kind: u64) {
-    let list = list_of(kind);
-    let held = held_of(m, kind);
-    let wrong = apart(m, list, sum(FIRST, list), held, held, 0);
-    add(m, TALLY, 18, held);
-    add(m, TALLY, 19, wrong);
-}
-
-// In how many cells a column of the log differs from the turns that were played, spare cells too.
-fn log_faults(m: &Memory, kind: u64) -> u64 {
-    let list = list_of(kind);
-    apart(m, list, list, number(m, PAIRS), number(m, LENT_LOG), MARK)
-}
-
-fn test_log(m: &mut Memory) {
-    add(m, TALLY, 20, number(m, PAIRS));
-    add(m, TALLY, 21, apart(m, COUNTS, COUNTS, 8, 8, 0));
-    for kind in LOG_KIND..KINDS {
-        let faults = log_faults(m, kind);
-        add(m, TALLY, 21, faults);
-    }
-}
-
-fn one_crew(m: &mut Memory, number: u64, k: u64) {
-    set_crew_of(m, number, k);
-    play(m);
-    plan_kept(m);
-    add(m, TALLY, 17, 1);
-    test_log(m);
-}
-
-fn hold_to_first(m: &mut Memory) {
-    for kind in ANSWERS..LOG_KIND {
-        hold_kind(m, kind);
-    }
+fn one_crew(
+    alloc: Global,
+    tally: &mut Tally,
+    query: &Enumerated,
+    crew: &Crew,
+) -> Result<Kept, AllocError> {
+    let log = query.play(alloc, crew)?;
+    let kept = plan_kept(alloc, &query.memo.query, crew, LENT)?;
+    tally.plans = tally.plans.saturating_add(1);
+    tally.test_log(&kept, &log);
+    Ok(kept)
 }
 
 // Query `number`: two tables to seven.
-fn one_query(m: &mut Memory, number: u64) {
-    enumerate_query(m, sum(number % 6, 2));
-    add(m, TALLY, 16, 1);
-    one_crew(m, number, 0);
-    save(m);
+fn one_query(
+    alloc: Global,
+    random: &mut Random,
+    tally: &mut Tally,
+    number: u64,
+) -> Result<(), AllocError> {
+    let query = Enumerated::drawn(alloc, random, (number % 6) as usize + 2)?;
+    tally.queries = tally.queries.saturating_add(1);
+    let first = one_crew(alloc, tally, &query, &crew_of(alloc, random, number, 0)?)?;
     for k in 1..CREWS {
-        one_crew(m, number, k);
-        hold_to_first(m);
+        let kept = one_crew(alloc, tally, &query, &crew_of(alloc, random, number, k)?)?;
+        tally.hold_to_first(&kept, &first);
     }
+    Ok(())
 }
 
-// All crews are lent as much: seven tables have 127 sets, 448 cells and 966 pairs.
-pub fn all_queries(m: &mut Memory) {
-    m[LENT_ROWS] = 128;
-    m[LENT_CELLS] = 456;
-    m[LENT_LOG] = 1024;
+pub fn all_queries(alloc: Global, random: &mut Random) -> Result<Tally, AllocError> {
+    let mut tally = Tally::default();
     for number in 0..QUERIES {
-        one_query(m, number);
+        one_query(alloc, random, &mut tally, number)?;
     }
+    Ok(tally)
 }

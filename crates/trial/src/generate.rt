@@ -1,180 +1,246 @@
 // Queries and crews, drawn by a generator with a seed.
-use super::memory::{
-    EDGES, GRAPH, KIND, LEFT, LISTED, MATRIX, Memory, NAMES, SCHEME, SEED, TABLES, TURNS, WAYS,
-    WORKERS, either, fill, get, number, put, put_three, sum,
-};
-use std::num::wrapping_add_u64;
+ghost use Rattle.std.specs.Prelude.{◌<◌, ◌≤◌};
+ghost use Rattle.std.specs.List.{All};
 
-// The graphs.
-const CHAIN: u64 = 0;
+use super::group::MOST_TABLES;
+use super::input::{Crew, Divisors, Edge, Method, Query, Scheme, Table};
+use super::random::Random;
+use std::alloc::{AllocError, Global};
 
-const CYCLE: u64 = 1;
+// The limits of rows, of scans and fixed costs, of coefficients, and of divisors less one.
+const MOST_ROWS: u64 = 1_000_000;
 
-const STAR: u64 = 2;
+const MOST_COST: u64 = 1_000_000_000;
 
-const CLIQUE: u64 = 3;
+const MOST_COEFFICIENT: u64 = 1_000;
 
-const TREE: u64 = 4;
+const MOST_DIVISOR: u64 = 999_999;
 
-// A round of xorshift, and a sum against its linearity.
-fn stir(x: u64) -> u64 {
-    let a = x ^ (x << 13);
-    let b = a ^ (a >> 7);
-    let c = b ^ (b << 17);
-    wrapping_add_u64(c, 11_400_714_819_323_198_485)
+// How large a number is: so small that many costs tie; 0; small; any; the limit.
+#[derive(Clone, Copy)]
+enum Kind {
+    Tie,
+    Zero,
+    Small,
+    Any,
+    Limit,
 }
 
-// What a seed draws: a number below `below`.
-fn drawn(seed: u64, below: u64) -> u64 {
-    if below == 0 {
-        return 0;
+impl Kind {
+    fn numbered(n: u64) -> Kind {
+        match n {
+            0 => Kind::Tie,
+            1 => Kind::Zero,
+            2 => Kind::Small,
+            3 => Kind::Any,
+            _ => Kind::Limit,
+        }
     }
-    (stir(seed) >> 20) % below
-}
 
-pub fn draw(m: &mut Memory, below: u64) -> u64 {
-    let seed = stir(number(m, SEED));
-    m[SEED] = seed;
-    drawn(seed, below)
-}
-
-// A number up to `most`: below 3, so that many costs tie; 0; small; any; the limit.
-fn of_kind(kind: u64, any: u64, most: u64) -> u64 {
-    match kind {
-        0 => any % 3,
-        1 => 0,
-        2 => any % 100,
-        3 => any,
-        _ => most,
+    // A number up to `most`, made of any.
+    fn number(self, any: u64, most: u64) -> u64
+        requires { any ≤ most }
+        ensures { result ≤ most }
+    {
+        match self {
+            Kind::Tie => any % 3,
+            Kind::Zero => 0,
+            Kind::Small => any % 100,
+            Kind::Any => any,
+            Kind::Limit => most,
+        }
     }
 }
 
-// A number of a kind up to 4, or of any.
-fn pick(m: &mut Memory, kind: u64, most: u64) -> u64 {
-    let other = draw(m, 5);
-    let any = draw(m, sum(most, 1));
-    of_kind(either(kind > 4, other, kind), any, most)
+// One kind for all of a list, or none: each number has its own.
+fn draw_kind(random: &mut Random) -> Option<Kind> {
+    match random.draw(6) {
+        5 => None,
+        n => Some(Kind::numbered(n)),
+    }
 }
 
-// The first `n` of a list, all of one kind.
-fn pick_list(m: &mut Memory, list: u64, n: u64, most: u64) {
-    let kind = draw(m, 6);
+fn draw_number(random: &mut Random, kind: Option<Kind>, most: u64) -> u64
+    ensures { result ≤ most }
+{
+    let own = Kind::numbered(random.draw(5));
+    let any = random.up_to(most);
+    kind.unwrap_or(own).number(any, most)
+}
+
+// Sets a number of each of a list's records.
+fn draw_each<T, F: Fn(&mut T, u64)>(random: &mut Random, list: &mut [T], most: u64, set: F)
+    requires { F.IsAlwaysCallable set }
+{
+    let kind = draw_kind(random);
+    for record in list {
+        set(record, draw_number(random, kind, most));
+    }
+}
+
+#[derive(Clone, Copy)]
+enum Graph {
+    Chain,
+    Cycle,
+    Star,
+    Clique,
+    Tree,
+    Any,
+}
+
+impl Graph {
+    // Large graphs are thin.
+    fn numbered(n: u64, tables: usize) -> Graph {
+        let kinds = match tables {
+            0..=9 => 6,
+            10 => 3,
+            _ => 2,
+        };
+        match n % kinds {
+            0 => Graph::Chain,
+            1 => Graph::Cycle,
+            2 => Graph::Star,
+            3 => Graph::Clique,
+            4 => Graph::Tree,
+            _ => Graph::Any,
+        }
+    }
+
+    // Whether the graph has an edge from place i to an earlier place j.
+    fn links(self, i: usize, j: usize, tables: usize, parent: usize, some: bool) -> bool
+        requires earlier { j < i }
+        requires table { i < tables }
+    {
+        let next = j + 1 == i;
+        match self {
+            Graph::Chain => next,
+            Graph::Cycle => next || (j == 0 && i + 1 == tables),
+            Graph::Star => j == 0,
+            Graph::Clique => true,
+            Graph::Tree => j == parent,
+            Graph::Any => j == parent || some,
+        }
+    }
+}
+
+// Here `n` is a plain number: the query, whose ghost field bounds it, is made last of all.
+
+// The first `n` tables in any order.
+fn shuffled(random: &mut Random, n: usize) -> [usize; MOST_TABLES]
+    requires { n ≤ 16 }
+    ensures { All (λ t. t < 16) result }
+{
+    let mut order = [0, 1, 2, 3, 4, 5, 6, 7, 8, 9, 10, 11, 12, 13, 14, 15];
     for i in 0..n {
-        let value = pick(m, kind, most);
-        put(m, list, i, value);
+        order.swap(i, random.up_to(i as u64) as usize);
     }
+    order
 }
 
-// The limits of rows, scans, fixed costs and coefficients.
-fn most_of(k: u64) -> u64 {
-    match k {
-        0 => 1_000_000,
-        1 | 2 => 1_000_000_000,
-        _ => 1_000,
-    }
-}
-
-// Two lists of tables, then four of methods.
-fn pick_lists(m: &mut Memory, n: u64, ways: u64) {
-    for k in 0..6u64 {
-        pick_list(m, k << 7, either(k < 2, n, ways), most_of(k));
-    }
-}
-
-// Large graphs are thin.
-fn graph_of(n: u64, any: u64) -> u64 {
-    if n > 10 {
-        return any % 2;
-    }
-    if n > 9 {
-        return any % 3;
-    }
-    any
-}
-
-// The tables' numbers, from 0, in any order.
-fn shuffle(m: &mut Memory, n: u64) {
+// The edges of any graph with any kind of divisors, over the tables in any order, each either way round.
+fn draw_edges(alloc: Global, random: &mut Random, n: usize) -> Result<Vec<Edge>, AllocError>
+    requires { n ≤ 16 }
+{
+    let order = shuffled(random, n);
+    let graph = Graph::numbered(random.draw(6), n);
+    let kind = draw_kind(random);
+    let mut edges = Vec::new(alloc);
     for i in 0..n {
-        let j = draw(m, sum(i, 1));
-        let moved = get(m, NAMES, j);
-        put(m, NAMES, i, moved);
-        put(m, NAMES, j, i);
+        let parent = random.draw(i as u64) as usize;
+        for j in 0..i {
+            let some = random.draw(3) == 0;
+            let divisor = 1 + draw_number(random, kind, MOST_DIVISOR);
+            if graph.links(i, j, n, parent, some) {
+                let turned = random.draw(2) == 0;
+                let (a, b) = if turned { (j, i) } else { (i, j) };
+                edges.push(Edge {
+                    left: order[a],
+                    right: order[b],
+                    divisor,
+                })?;
+            }
+        }
     }
+    Ok(edges)
 }
 
-fn put_edge(m: &mut Memory, a: u64, b: u64, divisor: u64) {
-    let e = number(m, EDGES);
-    m[EDGES] = sum(e, 1);
-    put_three(m, LEFT, 128, e, sum(a, 1), sum(b, 1), divisor);
-    put(m, MATRIX, sum(a << 4, b), divisor);
-    put(m, MATRIX, sum(b << 4, a), divisor);
+pub fn draw_query(alloc: Global, random: &mut Random, n: usize) -> Result<Query, AllocError>
+    requires { n ≤ 16 }
+{
+    let ways = random.draw(4) as usize + 1;
+    let mut tables = vec![in alloc; Table::default(); n]?;
+    let mut methods = vec![in alloc; Method::default(); ways]?;
+    draw_each(
+        random,
+        &mut tables,
+        MOST_ROWS,
+        |table, rows| table.rows = rows,
+    );
+    draw_each(
+        random,
+        &mut tables,
+        MOST_COST,
+        |table, scan| table.scan = scan,
+    );
+    draw_each(
+        random,
+        &mut methods,
+        MOST_COST,
+        |method, fixed| method.fixed = fixed,
+    );
+    draw_each(
+        random,
+        &mut methods,
+        MOST_COEFFICIENT,
+        |method, outer| method.outer = outer,
+    );
+    draw_each(
+        random,
+        &mut methods,
+        MOST_COEFFICIENT,
+        |method, inner| method.inner = inner,
+    );
+    draw_each(
+        random,
+        &mut methods,
+        MOST_COEFFICIENT,
+        |method, per_row| method.result = per_row,
+    );
+    let edges = draw_edges(alloc, random, n)?;
+    let divisors = Divisors::new(&edges);
+    Ok(Query {
+        tables,
+        methods,
+        edges,
+        divisors,
+    })
 }
 
-// An edge of the tables at places i and j of the order, either way round.
-fn link(m: &mut Memory, i: u64, j: u64, divisor: u64) {
-    let turned = draw(m, 2) == 0;
-    let a = get(m, NAMES, either(turned, j, i));
-    let b = get(m, NAMES, either(turned, i, j));
-    put_edge(m, a, b, divisor);
-}
-
-// Whether the graph has an edge from place i to an earlier place j; `some` is drawn.
-fn wanted(m: &Memory, i: u64, j: u64, parent: u64, some: u64) -> bool {
-    let next = sum(j, 1) == i;
-    match number(m, GRAPH) {
-        CHAIN => next,
-        CYCLE => next || (j == 0 && sum(i, 1) == number(m, TABLES)),
-        STAR => j == 0,
-        CLIQUE => true,
-        TREE => j == parent,
-        _ => j == parent || some == 0,
+// A crew with a list of turns, each any worker's.
+pub fn draw_crew(
+    alloc: Global,
+    random: &mut Random,
+    workers: u64,
+    scheme: Scheme,
+    listed: usize,
+) -> Result<Crew, AllocError> {
+    let mut turns = Vec::with_capacity(alloc, listed)?;
+    for _ in 0..listed {
+        turns.push(random.draw(workers))?;
     }
+    Ok(Crew {
+        workers,
+        scheme,
+        turns,
+    })
 }
 
-// That edge, where the graph has it.
-fn link_if_wanted(m: &mut Memory, i: u64, j: u64, parent: u64) {
-    let some = draw(m, 3);
-    let kind = number(m, KIND);
-    let divisor = pick(m, kind, 999_999);
-    if wanted(m, i, j, parent, some) {
-        link(m, i, j, sum(divisor, 1));
-    }
-}
-
-fn link_back(m: &mut Memory, i: u64) {
-    let parent = draw(m, i);
-    for j in 0..i {
-        link_if_wanted(m, i, j, parent);
-    }
-}
-
-// Any graph and any kind of divisors, over the tables in any order.
-fn make_graph(m: &mut Memory, n: u64) {
-    fill(m, MATRIX, 256, 0);
-    m[EDGES] = 0;
-    m[GRAPH] = graph_of(n, draw(m, 6));
-    m[KIND] = draw(m, 6);
-    for i in 0..n {
-        link_back(m, i);
-    }
-}
-
-pub fn make_query(m: &mut Memory, n: u64) {
-    let ways = sum(draw(m, 4), 1);
-    m[TABLES] = n;
-    m[WAYS] = ways;
-    pick_lists(m, n, ways);
-    shuffle(m, n);
-    make_graph(m, n);
-}
-
-// A list of turns that names any of the workers, those too that have no pair left.
-pub fn set_crew(m: &mut Memory, workers: u64, scheme: u64, listed: u64) {
-    m[WORKERS] = workers;
-    m[SCHEME] = scheme;
-    m[LISTED] = listed;
-    for i in 0..listed {
-        let worker = draw(m, workers);
-        put(m, TURNS, i, worker);
+// An empty list of turns, a short one, one that often ends within a size, and one that is often longer than the work.
+pub fn listed(kind: u64, longest: usize) -> usize {
+    match kind % 4 {
+        0 => 0,
+        1 => 3,
+        2 => 40,
+        _ => longest,
     }
 }

@@ -1,150 +1,253 @@
 // Plans each query under its crews and holds what planning left to the enumeration.
-use super::enumerate::{put_rows, put_skips};
-use super::generate::{draw, make_query, set_crew};
-use super::kinds::{ANSWERS, KINDS, ROWS_KIND, apart, filled_of, lent_of, list_of};
-use super::memory::{
-    CELL_COUNT, LENT_CELLS, LENT_LOG, LENT_ROWS, MOST_CELLS, MOST_LOG, MOST_ROWS, Memory, PAIRS,
-    REFUSAL, ROW_COUNT, SEED, TALLY, add, either, least, number, one_if, sum,
-};
-use super::plan_in::{MARK, plan_kept};
-use super::play::play;
-use std::num::wrapping_sub_u64;
+ghost use Rattle.std.specs.Prelude.{◌<◌, ◌≤◌};
+
+use super::compare::{Compared, Tally};
+use super::enumerate::{Memo, Row};
+use super::generate::{draw_crew, draw_query, listed};
+use super::input::{Crew, Scheme};
+use super::plan_in::{Kept, Lent, Memory, Numbers, plan_kept};
+use super::play::{Candidates, Entry, counts, play};
+use super::random::Random;
+use std::alloc::{AllocError, Global};
 
 const QUERIES: u64 = 20_480;
 
 const CREWS: u64 = 3;
 
+// Rows, skip cells and log entries that are lent at most.
+const MOST_LENT: Lent = Lent {
+    rows: 1024,
+    cells: 3072,
+    log: 2048,
+};
+
+// The refusals of too little memory.
+#[derive(Clone, Copy)]
+enum Refused {
+    Rows = 13,
+    Cells = 14,
+}
+
+// What planning must leave: nothing where it refuses.
+#[derive(Clone, Copy)]
+struct Expected<'a> {
+    answer: Numbers,
+    rows: &'a [Row],
+    skips: &'a [u64],
+    log: &'a [Entry],
+}
+
+fn planned<'a>(memo: &'a Memo, log: &'a [Entry]) -> Expected<'a> {
+    let rows = memo.rows.as_slice();
+    let skips = memo.skips.as_slice();
+    Expected {
+        answer: Numbers::of_plan(
+            memo.best(),
+            rows.len() as u64,
+            skips.len() as u64,
+            log.len() as u64,
+            counts(log),
+        ),
+        rows,
+        skips,
+        log,
+    }
+}
+
+fn refused_plan<'a>(refusal: Refused) -> Expected<'a> {
+    Expected {
+        answer: Numbers::of_refusal(refusal as u64, 0),
+        rows: &[],
+        skips: &[],
+        log: &[],
+    }
+}
+
+// The refusal of what is lent.
+fn refusal(memo: &Memo, lent: Lent) -> Option<Refused> {
+    if lent.rows < memo.rows.len() {
+        Some(Refused::Rows)
+    } else if lent.cells < memo.skips.len() {
+        Some(Refused::Cells)
+    } else {
+        None
+    }
+}
+
+fn hold_answer(tally: &mut Tally, kept: &Numbers, expected: &Numbers) {
+    tally.hold(
+        Compared::Answers,
+        &kept.shared,
+        &expected.shared,
+        |number| *number,
+    );
+    tally.hold(
+        Compared::Answers,
+        &kept.counts,
+        &expected.counts,
+        |count| *count,
+    );
+}
+
+fn hold_rows(tally: &mut Tally, kept: &Memory, rows: &[Row]) {
+    tally.hold(Compared::Sets, &kept.sets, rows, |row| row.set);
+    tally.hold(
+        Compared::Estimates,
+        &kept.estimates,
+        rows,
+        |row| row.estimate,
+    );
+    tally.hold(Compared::Costs, &kept.costs, rows, |row| row.cost);
+    tally.hold(Compared::Outers, &kept.outers, rows, |row| row.outer);
+    tally.hold(Compared::Methods, &kept.methods, rows, |row| row.method);
+}
+
+fn hold_log(tally: &mut Tally, kept: &Memory, log: &[Entry]) {
+    tally.hold(
+        Compared::LogWorkers,
+        &kept.log_workers,
+        log,
+        |entry| entry.worker,
+    );
+    tally.hold(
+        Compared::LogDriving,
+        &kept.log_driving,
+        log,
+        |entry| entry.driving,
+    );
+    tally.hold(
+        Compared::LogInner,
+        &kept.log_inner,
+        log,
+        |entry| entry.inner,
+    );
+    tally.hold(Compared::LogCosts, &kept.log_costs, log, |entry| entry.cost);
+}
+
+fn hold_all(tally: &mut Tally, kept: &Kept, expected: &Expected) {
+    hold_answer(tally, &kept.answer, &expected.answer);
+    hold_rows(tally, &kept.memory, expected.rows);
+    tally.hold(
+        Compared::SkipCells,
+        &kept.memory.skips,
+        expected.skips,
+        |skip| *skip,
+    );
+    hold_log(tally, &kept.memory, expected.log);
+}
+
 // One table to six, seven in one of 40, eight to twelve in one of 400.
-fn tables_of(number: u64) -> u64 {
+fn tables_of(number: u64) -> usize
+    ensures { result ≤ 16 }
+{
     if number % 400 == 399 {
-        return 8 + number / 400 % 5;
+        return 8 + (number / 400 % 5) as usize;
     }
     if number % 40 == 39 {
         return 7;
     }
     match number % 16 {
         0 => 1,
-        1 | 2 => 2,
-        3 | 4 | 5 => 3,
-        6 | 7 | 8 | 9 => 4,
-        10 | 11 | 12 => 5,
+        1..=2 => 2,
+        3..=5 => 3,
+        6..=9 => 4,
+        10..=12 => 5,
         _ => 6,
     }
 }
 
-// An empty list, a short one, one that often ends within a size, and one that is often longer than the work.
-fn length_of(kind: u64) -> u64 {
-    match kind {
-        0 => 0,
-        1 => 3,
-        2 => 40,
-        _ => 400,
+fn any_crew(alloc: Global, random: &mut Random) -> Result<Crew, AllocError> {
+    let workers = random.draw(8) + 1;
+    let scheme = Scheme::numbered(random.draw(4));
+    let turns = listed(random.draw(4), 400);
+    draw_crew(alloc, random, workers, scheme, turns)
+}
+
+// As much as is needed and a few more, or one too little.
+fn lent_for(needed: usize, short: bool, more: usize, most: usize) -> usize {
+    let lent = if short {
+        needed.saturating_sub(1)
+    } else {
+        needed.saturating_add(more)
+    };
+    lent.min(most)
+}
+
+// Rows and cells that just suffice, a few more, or rarely one too few; a log of any length.
+fn draw_lent(random: &mut Random, memo: &Memo, pairs: usize) -> Lent {
+    let more = random.draw(4) as usize;
+    let rare = random.draw(64);
+    let short = random.up_to(pairs as u64) as usize;
+    let more_log = random.draw(4) as usize;
+    let log = match random.draw(4) {
+        0 => short,
+        _ => pairs.saturating_add(more_log),
+    };
+    Lent {
+        rows: lent_for(memo.rows.len(), rare == 0, more, MOST_LENT.rows),
+        cells: lent_for(memo.skips.len(), rare < 2, more, MOST_LENT.cells),
+        log: log.min(MOST_LENT.log),
     }
 }
 
-fn make_crew(m: &mut Memory) {
-    let workers = sum(draw(m, 8), 1);
-    let scheme = sum(draw(m, 4), 1);
-    let listed = length_of(draw(m, 4));
-    set_crew(m, workers, scheme, listed);
+// A query with its enumeration, and the candidates of its sizes from two on.
+#[derive(Drop)]
+pub struct Enumerated {
+    pub memo: Memo,
+    pub sizes: Vec<Candidates>,
 }
 
-// In how many cells what planning left of a kind differs from what it must leave.
-fn wrong_of(m: &Memory, kind: u64) -> u64 {
-    let list = list_of(kind);
-    let spare = either(kind < ROWS_KIND, 0, MARK);
-    apart(m, list, list, filled_of(m, kind), lent_of(m, kind), spare)
-}
-
-// Counts comparisons of a kind.
-fn hold(m: &mut Memory, kind: u64) {
-    let lent = lent_of(m, kind);
-    let wrong = wrong_of(m, kind);
-    add(m, TALLY, kind, lent);
-    add(m, TALLY, 14, lent);
-    add(m, TALLY, 15, wrong);
-}
-
-// The refusal of what is lent, or 0.
-fn refusal(m: &Memory) -> u64 {
-    if number(m, LENT_ROWS) < number(m, ROW_COUNT) {
-        return 13;
+impl Enumerated {
+    pub fn drawn(
+        alloc: Global,
+        random: &mut Random,
+        tables: usize,
+    ) -> Result<Enumerated, AllocError>
+        requires { tables ≤ 16 }
+    {
+        let memo = Memo::of(alloc, draw_query(alloc, random, tables)?)?;
+        let mut sizes = Vec::new(alloc);
+        for size in 2..=tables {
+            sizes.push(Candidates::of(alloc, &memo, size)?)?;
+        }
+        Ok(Enumerated { memo, sizes })
     }
-    if number(m, LENT_CELLS) < number(m, CELL_COUNT) {
-        return 14;
-    }
-    0
-}
 
-// Rows and cells that just suffice, a few more, or rarely one too few.
-fn lend_room(m: &mut Memory) {
-    let more = draw(m, 4);
-    let rare = draw(m, 64);
-    m[LENT_ROWS] = lent_for(number(m, ROW_COUNT), rare == 0, more, MOST_ROWS);
-    m[LENT_CELLS] = lent_for(number(m, CELL_COUNT), rare < 2, more, MOST_CELLS);
-}
-
-fn lent_for(needed: u64, short: bool, more: u64, most: u64) -> u64 {
-    least(
-        either(short, wrapping_sub_u64(needed, 1), sum(needed, more)),
-        most,
-    )
-}
-
-// A log of any length.
-fn lend_log(m: &mut Memory) {
-    let pairs = number(m, PAIRS);
-    let short = draw(m, sum(pairs, 1));
-    let more = draw(m, 4);
-    let coin = draw(m, 4);
-    m[LENT_LOG] = least(either(coin == 0, short, sum(pairs, more)), MOST_LOG);
-}
-
-// A crew, its turns by the enumeration, and what is lent to planning.
-fn prepare(m: &mut Memory) {
-    make_crew(m);
-    play(m);
-    lend_room(m);
-    lend_log(m);
-    m[REFUSAL] = refusal(m);
-}
-
-fn count_plan(m: &mut Memory) {
-    let refused = number(m, REFUSAL) != 0;
-    add(m, TALLY, 1, 1);
-    add(m, TALLY, 2, one_if(refused));
-}
-
-fn hold_all(m: &mut Memory) {
-    for kind in ANSWERS..KINDS {
-        hold(m, kind);
+    pub fn play(&self, alloc: Global, crew: &Crew) -> Result<Vec<Entry>, AllocError> {
+        play(alloc, &self.memo.query, &self.sizes, crew)
     }
 }
 
-fn one_crew(m: &mut Memory) {
-    prepare(m);
-    plan_kept(m);
-    count_plan(m);
-    hold_all(m);
-}
-
-pub fn enumerate_query(m: &mut Memory, tables: u64) {
-    make_query(m, tables);
-    put_rows(m);
-    put_skips(m);
-}
-
-fn one_query(m: &mut Memory, number: u64) {
-    enumerate_query(m, tables_of(number));
-    add(m, TALLY, 0, 1);
-    for k in 0..CREWS {
-        one_crew(m);
+// Plans under a crew.
+fn one_crew(
+    alloc: Global,
+    random: &mut Random,
+    tally: &mut Tally,
+    query: &Enumerated,
+) -> Result<(), AllocError> {
+    let crew = any_crew(alloc, random)?;
+    let log = query.play(alloc, &crew)?;
+    let lent = draw_lent(random, &query.memo, log.len());
+    let kept = plan_kept(alloc, &query.memo.query, &crew, lent)?;
+    tally.plans = tally.plans.saturating_add(1);
+    match refusal(&query.memo, lent) {
+        Some(refusal) => {
+            tally.refused = tally.refused.saturating_add(1);
+            hold_all(tally, &kept, &refused_plan(refusal));
+        }
+        None => hold_all(tally, &kept, &planned(&query.memo, &log)),
     }
+    Ok(())
 }
 
-pub fn all_queries(m: &mut Memory) {
-    m[SEED] = 20_261_115;
+pub fn all_queries(alloc: Global, random: &mut Random) -> Result<Tally, AllocError> {
+    let mut tally = Tally::default();
     for number in 0..QUERIES {
-        one_query(m, number);
+        let query = Enumerated::drawn(alloc, random, tables_of(number))?;
+        tally.queries = tally.queries.saturating_add(1);
+        for _ in 0..CREWS {
+            one_crew(alloc, random, &mut tally, &query)?;
+        }
     }
+    Ok(tally)
 }

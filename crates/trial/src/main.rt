@@ -2,40 +2,44 @@
 // planner; and queries planned under many crews, which must all leave the same. Prints counts only.
 #![tactic(auto)]
 
+mod by_set;
+mod compare;
 mod crews;
 mod enumerate;
-mod flags;
 mod generate;
+mod group;
 mod hold;
-mod kinds;
-mod memory;
+mod input;
 mod plan_in;
 mod play;
+mod random;
 
-use memory::{Memory, TALLY, get, sum};
+use random::Random;
 use std::io;
 
-// The names byte by byte; before each line's end a count.
-fn report(rt: &impl Print, m: &Memory, names: &[u8]) -> io::Result<()> {
-    let mut i = 0u64;
-    for at in 0..names.len() {
-        let next = at + 1;
-        if names[at] == 10 {
-            rt.print(get(m, TALLY, i))?;
-            i = sum(i, 1);
-        }
-        rt.write_all(&names[at..next])?;
+fn report(rt: &impl Print, tally: &compare::Tally) -> io::Result<()> {
+    println!(rt; "queries {}", tally.queries)?;
+    println!(rt; "plans {}", tally.plans)?;
+    println!(rt; "refused {}", tally.refused)?;
+    for what in compare::ALL_COMPARED {
+        println!(rt; "{} {}", what, tally.of(what))?;
     }
-    Ok(())
+    println!(rt; "comparisons {}", tally.comparisons)?;
+    println!(rt; "differences {}", tally.differences)
+}
+
+fn report_crews(rt: &impl Print, tally: &crews::Tally) -> io::Result<()> {
+    println!(rt; "queries of twelve crews {}", tally.queries)?;
+    println!(rt; "their plans {}", tally.plans)?;
+    println!(rt; "their comparisons {}", tally.comparisons)?;
+    println!(rt; "their differences {}", tally.differences)?;
+    println!(rt; "their log entries {}", tally.entries)?;
+    println!(rt; "faults in these {}", tally.faults)
 }
 
 fn main(rt: HostRuntime) -> io::Result<()> {
-    let mut m = [0u64; memory::SIZE];
-    hold::all_queries(&mut m);
-    crews::all_queries(&mut m);
-    report(
-        &rt,
-        &m,
-        b"queries \nplans \nrefused \nanswers \nsets \nestimates \ncosts \nouters \nmethods \nskip cells \nlog workers \nlog driving sets \nlog inner sets \nlog costs \ncomparisons \ndifferences \nqueries of twelve crews \ntheir plans \ntheir comparisons \ntheir differences \ntheir log entries \nfaults in these \n",
-    )
+    let alloc = rt.alloc();
+    let mut random = Random::new(20_261_115);
+    report(&rt, &hold::all_queries(alloc, &mut random)?)?;
+    report_crews(&rt, &crews::all_queries(alloc, &mut random)?)
 }

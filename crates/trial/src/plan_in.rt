@@ -1,176 +1,146 @@
-// Plans the query and crew of the memory, and keeps in it what planning answered and left.
-ghost use Rattle.std.specs.Prelude.{◌<◌, ◌≤◌, length};
-
-use super::kinds::{ANSWERS, lent_of, list_of};
-use super::memory::{
-    EDGES, KEPT, LENT_CELLS, LENT_LOG, LENT_ROWS, LISTED, Memory, SCHEME, TABLES, WAYS, WORKERS,
-    put, sum,
-};
+// Plans a query under a crew in memory that holds marks, and keeps what planning answered and left.
+use super::input::{Crew, Query};
 use planner::{Answer, plan};
+use rules::refusal::Refusal;
+use std::alloc::{AllocError, Global};
 
 // What stands in lent memory before.
 pub const MARK: u64 = 77;
 
-// One of each kind: the answer, rows, skip cells, log.
-const COLUMNS: usize = 11;
-
-// Cells of a column; ten tables in a star have 2,825 skip cells.
-const CELLS: usize = 3_072;
-
-type Column = [u64; CELLS];
-
-type Columns = [Column; COLUMNS];
-
-// The six numbers of an answer and its eight counts.
-fn answer_column(answer: Answer) -> Column {
-    let counts = answer.counts;
-    let mut column = [0u64; CELLS];
-    for w in 0..8usize {
-        column[w + 6] = counts[w];
-    }
-    column[0] = answer.refusal;
-    column[1] = answer.place;
-    column[2] = answer.best;
-    column[3] = answer.rows;
-    column[4] = answer.cells;
-    column[5] = answer.pairs;
-    column
+// How many rows, skip cells and log entries are lent.
+#[derive(Clone, Copy)]
+pub struct Lent {
+    pub rows: usize,
+    pub cells: usize,
+    pub log: usize,
 }
 
-// Plans in memory of its own.
-fn plan_in(
-    rows: &[u64],
-    scans: &[u64],
-    left: &[u64],
-    right: &[u64],
-    divisors: &[u64],
-    fixed: &[u64],
-    outer: &[u64],
-    inner: &[u64],
-    res: &[u64],
-    workers: u64,
-    scheme: u64,
-    turns: &[u64],
-    lentrows: usize,
-    lentcells: usize,
-    lentlog: usize,
-) -> Columns
-    requires { (lentrows ≤ 3072) × (lentcells ≤ 3072) × (lentlog ≤ 3072) }
+// An answer as it is compared, number by number: refusal, place, best cost, rows, skip cells, pairs; and the pairs of each worker.
+#[derive(Clone, Copy)]
+pub struct Numbers {
+    pub shared: [u64; 6],
+    pub counts: [u64; 8],
+}
+
+// Memory lent to planning. Not shared with `cases`, which lends likewise: this program stands by itself.
+#[derive(Drop)]
+pub struct Memory {
+    pub sets: Vec<u64>,
+    pub estimates: Vec<u64>,
+    pub costs: Vec<u64>,
+    pub outers: Vec<u64>,
+    pub methods: Vec<u64>,
+    pub skips: Vec<u64>,
+    pub log_workers: Vec<u64>,
+    pub log_driving: Vec<u64>,
+    pub log_inner: Vec<u64>,
+    pub log_costs: Vec<u64>,
+}
+
+// What planning answered and left.
+#[derive(Drop)]
+pub struct Kept {
+    pub answer: Numbers,
+    pub memory: Memory,
+}
+
+impl Memory {
+    fn marked(alloc: Global, lent: Lent) -> Result<Memory, AllocError> {
+        Ok(Memory {
+            sets: vec![in alloc; MARK; lent.rows]?,
+            estimates: vec![in alloc; MARK; lent.rows]?,
+            costs: vec![in alloc; MARK; lent.rows]?,
+            outers: vec![in alloc; MARK; lent.rows]?,
+            methods: vec![in alloc; MARK; lent.rows]?,
+            skips: vec![in alloc; MARK; lent.cells]?,
+            log_workers: vec![in alloc; MARK; lent.log]?,
+            log_driving: vec![in alloc; MARK; lent.log]?,
+            log_inner: vec![in alloc; MARK; lent.log]?,
+            log_costs: vec![in alloc; MARK; lent.log]?,
+        })
+    }
+}
+
+impl Numbers {
+    pub fn of_plan(best: u64, rows: u64, cells: u64, pairs: u64, counts: [u64; 8]) -> Numbers {
+        Numbers {
+            shared: [0, 0, best, rows, cells, pairs],
+            counts,
+        }
+    }
+
+    pub fn of_refusal(number: u64, place: u64) -> Numbers {
+        Numbers {
+            shared: [number, place, 0, 0, 0, 0],
+            counts: [0; 8],
+        }
+    }
+}
+
+fn numbers_of(answer: Result<Answer, Refusal>) -> Numbers {
+    match answer {
+        Ok(a) => Numbers::of_plan(a.best, a.rows, a.cells, a.pairs, a.counts),
+        Err(r) => Numbers::of_refusal(r.reason.number(), r.place),
+    }
+}
+
+// A number of each record.
+fn column<T, F: Fn(&T) -> u64>(
+    alloc: Global,
+    records: &[T],
+    number: F,
+) -> Result<Vec<u64>, AllocError>
+    requires { F.IsAlwaysCallable number }
 {
-    let mut sets = [MARK; CELLS];
-    let mut estimates = [MARK; CELLS];
-    let mut costs = [MARK; CELLS];
-    let mut outers = [MARK; CELLS];
-    let mut methods = [MARK; CELLS];
-    let mut skips = [MARK; CELLS];
-    let mut log_workers = [MARK; CELLS];
-    let mut log_driving = [MARK; CELLS];
-    let mut log_inner = [MARK; CELLS];
-    let mut log_costs = [MARK; CELLS];
+    let mut column = Vec::with_capacity(alloc, records.len())?;
+    for record in records {
+        column.push(number(record))?;
+    }
+    Ok(column)
+}
+
+pub fn plan_kept(
+    alloc: Global,
+    query: &Query,
+    crew: &Crew,
+    lent: Lent,
+) -> Result<Kept, AllocError> {
+    let rows = column(alloc, &query.tables, |table| table.rows)?;
+    let scans = column(alloc, &query.tables, |table| table.scan)?;
+    let left = column(alloc, &query.edges, |edge| edge.left as u64 + 1)?;
+    let right = column(alloc, &query.edges, |edge| edge.right as u64 + 1)?;
+    let divisors = column(alloc, &query.edges, |edge| edge.divisor)?;
+    let fixed = column(alloc, &query.methods, |method| method.fixed)?;
+    let outer = column(alloc, &query.methods, |method| method.outer)?;
+    let inner = column(alloc, &query.methods, |method| method.inner)?;
+    let per_row = column(alloc, &query.methods, |method| method.result)?;
+    let mut memory = Memory::marked(alloc, lent)?;
     let answer = plan(
-        rows,
-        scans,
-        left,
-        right,
-        divisors,
-        fixed,
-        outer,
-        inner,
-        res,
-        workers,
-        scheme,
-        turns,
-        &mut sets[0..lentrows],
-        &mut estimates[0..lentrows],
-        &mut costs[0..lentrows],
-        &mut outers[0..lentrows],
-        &mut methods[0..lentrows],
-        &mut skips[0..lentcells],
-        &mut log_workers[0..lentlog],
-        &mut log_driving[0..lentlog],
-        &mut log_inner[0..lentlog],
-        &mut log_costs[0..lentlog],
+        &rows,
+        &scans,
+        &left,
+        &right,
+        &divisors,
+        &fixed,
+        &outer,
+        &inner,
+        &per_row,
+        crew.workers,
+        crew.scheme as u64,
+        &crew.turns,
+        &mut memory.sets,
+        &mut memory.estimates,
+        &mut memory.costs,
+        &mut memory.outers,
+        &mut memory.methods,
+        &mut memory.skips,
+        &mut memory.log_workers,
+        &mut memory.log_driving,
+        &mut memory.log_inner,
+        &mut memory.log_costs,
     );
-    [
-        answer_column(answer),
-        sets,
-        estimates,
-        costs,
-        outers,
-        methods,
-        skips,
-        log_workers,
-        log_driving,
-        log_inner,
-        log_costs,
-    ]
-}
-
-// The single number at a place, or `most` where it is greater.
-fn at_most(m: &[u64], at: usize, most: usize) -> usize
-    requires { at < length m.now }
-    ensures { result ≤ most }
-{
-    let n = m[at] as usize;
-    if n < most {
-        return n;
-    }
-    most
-}
-
-// The lists of a query stand in the memory, at the places that `memory` names.
-fn plan_parts(m: &[u64]) -> Columns
-    requires { 4096 ≤ length m.now }
-{
-    let tables = at_most(m, TABLES, 128);
-    let edges = at_most(m, EDGES, 128);
-    let ways = at_most(m, WAYS, 128);
-    let listed = at_most(m, LISTED, 2048);
-    let scans = 128 + tables;
-    let fixed = 256 + ways;
-    let outer = 384 + ways;
-    let inner = 512 + ways;
-    let result = 640 + ways;
-    let left = 768 + edges;
-    let right = 896 + edges;
-    let divisors = 1024 + edges;
-    let turns = 2048 + listed;
-    plan_in(
-        &m[0..tables],
-        &m[128..scans],
-        &m[768..left],
-        &m[896..right],
-        &m[1024..divisors],
-        &m[256..fixed],
-        &m[384..outer],
-        &m[512..inner],
-        &m[640..result],
-        m[WORKERS],
-        m[SCHEME],
-        &m[2048..turns],
-        at_most(m, LENT_ROWS, CELLS),
-        at_most(m, LENT_CELLS, CELLS),
-        at_most(m, LENT_LOG, CELLS),
-    )
-}
-
-// Keeps the lent cells of a kind's column.
-fn keep(m: &mut Memory, kind: u64, column: &Column) {
-    let list = sum(KEPT, list_of(kind));
-    let lent = lent_of(m, kind);
-    for i in 0..lent {
-        put(m, list, i, column[i as usize % CELLS]);
-    }
-}
-
-fn keep_all(m: &mut Memory, columns: Columns) {
-    for k in 0..COLUMNS {
-        let column = columns[k];
-        keep(m, sum(ANSWERS, k as u64), &column);
-    }
-}
-
-pub fn plan_kept(m: &mut Memory) {
-    let columns = plan_parts(m);
-    keep_all(m, columns);
+    Ok(Kept {
+        answer: numbers_of(answer),
+        memory,
+    })
 }

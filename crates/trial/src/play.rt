@@ -1,231 +1,206 @@
 // The turns, played on lists of all joinable pairs of a size with their workers.
-use super::enumerate::{joinable, priced, row_group, row_size, start_of};
-use super::memory::{
-    CANDIDATES, COSTS, COUNTS, DRIVING, DUE, JOINABLE, LISTED, LOG_COSTS, LOG_WORKERS, Memory,
-    NEVER, PAIRS, PARTNER, PLACES, ROW_COUNT, SCHEME, SETS, STANDING, TABLES, TURN, TURNS, WHOSE,
-    WORKERS, add, fill, get, least, number, power, put, put_three, sum, times,
-};
-use std::num::wrapping_sub_u64;
+use super::by_set::BySet;
+use super::enumerate::{Memo, Row, lower};
+use super::input::{Crew, Query, Scheme};
+use std::alloc::{AllocError, Global};
+use std::slice;
 
-// Entries of the log that are written at most.
-const LOG: u64 = 2048;
+// A joinable pair of two rows, and what it costs at best.
+#[derive(Clone, Copy)]
+pub struct Pair {
+    pub driving: u64,
+    pub inner: u64,
+    pub cost: u64,
+    // Its number among the candidates of its size.
+    number: u64,
+    // The driving row's number among the rows of its size, and how many those are.
+    row: u64,
+    rows: u64,
+    // Its number among the driving row's candidates.
+    place: u64,
+}
+
+#[derive(Drop)]
+pub struct Candidates {
+    pub count: u64,
+    pub joinable: Vec<Pair>,
+}
+
+#[derive(Clone, Copy)]
+pub struct Entry {
+    pub worker: u64,
+    pub driving: u64,
+    pub inner: u64,
+    pub cost: u64,
+}
 
 // "worker w has those from wT/m up to, not including, (w+1)T/m, rounded down"
-fn cut(x: u64, total: u64, workers: u64) -> u64 {
+fn cut(x: u64, total: u64, workers: u64) -> Option<u64> {
     for w in 0..workers {
-        if x < times(sum(w, 1), total) / workers {
-            return w;
+        if x < (w + 1).saturating_mul(total) / workers {
+            return Some(w);
         }
     }
-    NEVER
+    None
 }
 
-fn dealt(x: u64, workers: u64) -> u64 {
-    if workers == 0 {
-        return NEVER;
+impl Candidates {
+    // Those of a size: each driving row with the inner rows of as many tables as are left, behind it.
+    pub fn of(alloc: Global, memo: &Memo, size: usize) -> Result<Candidates, AllocError> {
+        let mut found = Candidates {
+            count: 0,
+            joinable: Vec::new(alloc),
+        };
+        for small in 1..=size / 2 {
+            let rows = memo.of_size(small);
+            for (i, driving) in rows.iter().enumerate() {
+                let inner = if 2 * small == size {
+                    &rows[i + 1..]
+                } else {
+                    memo.of_size(size - small)
+                };
+                found.add(memo, driving, i as u64, rows.len() as u64, inner)?;
+            }
+        }
+        Ok(found)
     }
-    x % workers
-}
 
-// Whose a candidate is: number c of its size, driving row d of `rows`, inner candidate k. Under scheme 1 its number, until all are
-// listed.
-fn share(m: &Memory, c: u64, d: u64, rows: u64, k: u64) -> u64 {
-    let workers = number(m, WORKERS);
-    match number(m, SCHEME) {
-        1 => c,
-        2 => cut(d, rows, workers),
-        3 => dealt(d, workers),
-        _ => dealt(k, workers),
+    // Those of a driving row, with its number and the number of all driving rows of its size.
+    fn add(
+        &mut self,
+        memo: &Memo,
+        driving: &Row,
+        row: u64,
+        rows: u64,
+        inner_rows: &[Row],
+    ) -> Result<(), AllocError> {
+        for (place, inner) in inner_rows.iter().enumerate() {
+            if memo.query.divisors.join(&driving.group, &inner.group) {
+                let parts = driving.cost.saturating_add(inner.cost);
+                if let Some(join) = memo.priced(driving.side(), inner.side(), parts) {
+                    self.joinable.push(Pair {
+                        driving: driving.set,
+                        inner: inner.set,
+                        cost: join.cost,
+                        number: self.count,
+                        row,
+                        rows,
+                        place: place as u64,
+                    })?;
+                }
+            }
+            self.count = self.count.saturating_add(1);
+        }
+        Ok(())
     }
-}
 
-// Whose candidate number c is, inner candidate k of driving row i.
-fn whose(m: &Memory, c: u64, i: u64, k: u64) -> u64 {
-    let size = row_size(m, i);
-    let first = start_of(m, size);
-    let rows = wrapping_sub_u64(start_of(m, sum(size, 1)), first);
-    share(m, c, wrapping_sub_u64(i, first), rows, k)
-}
-
-// Whether rows i and j are joinable.
-fn rows_join(m: &Memory, i: u64, j: u64) -> bool {
-    let driving = row_group(m, i);
-    let inner = row_group(m, j);
-    joinable(m, &driving, &inner)
-}
-
-fn list_pair(m: &mut Memory, worker: u64, i: u64, j: u64) {
-    let at = number(m, JOINABLE);
-    m[JOINABLE] = sum(at, 1);
-    put_three(m, WHOSE, 8192, at, worker, i, j);
-}
-
-// Candidate i, j, inner candidate k of driving row i: counted, and listed where it is joinable.
-fn meet(m: &mut Memory, i: u64, j: u64, k: u64) {
-    let c = number(m, CANDIDATES);
-    m[CANDIDATES] = sum(c, 1);
-    if rows_join(m, i, j) {
-        list_pair(m, whose(m, c, i, k), i, j);
-    }
-}
-
-// The first inner row of driving row i for a result of a size: of as many tables as are left, and behind row i.
-fn first_inner(m: &Memory, i: u64, size: u64) -> u64 {
-    let small = row_size(m, i);
-    let first = start_of(m, wrapping_sub_u64(size, small));
-    if first > i {
-        return first;
-    }
-    sum(i, 1)
-}
-
-// The end of its inner rows; none where row i has more than half of the tables.
-fn inner_end(m: &Memory, i: u64, size: u64) -> u64 {
-    let small = row_size(m, i);
-    if sum(small, small) > size {
-        return 0;
-    }
-    start_of(m, sum(wrapping_sub_u64(size, small), 1))
-}
-
-// The candidates of driving row i.
-fn meet_row(m: &mut Memory, i: u64, size: u64) {
-    let from = first_inner(m, i, size);
-    let end = inner_end(m, i, size);
-    for j in from..end {
-        meet(m, i, j, wrapping_sub_u64(j, from));
-    }
-}
-
-// Whose listed pair e is, now that all candidates of the size are counted.
-fn whose_listed(m: &Memory, e: u64) -> u64 {
-    let listed = get(m, WHOSE, e);
-    if number(m, SCHEME) != 1 {
-        return listed;
-    }
-    cut(listed, number(m, CANDIDATES), number(m, WORKERS))
-}
-
-// Puts listed pair e before its worker's later ones.
-fn chain(m: &mut Memory, e: u64) {
-    let w = whose_listed(m, e);
-    let later = get(m, PLACES, w);
-    put(m, WHOSE, e, later);
-    put(m, PLACES, w, e);
-}
-
-// From the last pair back.
-fn chain_all(m: &mut Memory) {
-    let listed = number(m, JOINABLE);
-    fill(m, PLACES, 8, listed);
-    for k in 0..listed {
-        chain(m, wrapping_sub_u64(listed, sum(k, 1)));
-    }
-}
-
-// Lists a size's joinable pairs.
-fn open(m: &mut Memory, size: u64) {
-    m[CANDIDATES] = 0;
-    m[JOINABLE] = 0;
-    for i in 0..number(m, ROW_COUNT) {
-        meet_row(m, i, size);
-    }
-    chain_all(m);
-    m[DUE] = sum(number(m, PAIRS), number(m, JOINABLE));
-}
-
-// The lowest worker that has a pair left.
-fn lowest(m: &Memory) -> u64 {
-    for w in 0..number(m, WORKERS) {
-        if get(m, PLACES, w) < number(m, JOINABLE) {
-            return w;
+    // Whose a pair is.
+    fn worker(&self, crew: &Crew, pair: &Pair) -> Option<u64> {
+        match crew.scheme {
+            Scheme::CutCandidates => cut(pair.number, self.count, crew.workers),
+            Scheme::CutRows => cut(pair.row, pair.rows, crew.workers),
+            Scheme::DealRows => pair.row.checked_rem(crew.workers),
+            Scheme::DealInner => pair.place.checked_rem(crew.workers),
         }
     }
-    0
 }
 
-// Who has the turn.
-fn whose_turn(m: &Memory) -> u64 {
-    let turn = number(m, TURN);
-    if turn < number(m, LISTED) {
-        return get(m, TURNS, turn);
+// The pairs of each worker, the next one last.
+fn dealt(
+    alloc: Global,
+    candidates: &Candidates,
+    crew: &Crew,
+) -> Result<Vec<Vec<Pair>>, AllocError> {
+    let mut hands = Vec::new(alloc);
+    for _ in 0..crew.workers {
+        hands.push(Vec::new(alloc))?;
     }
-    lowest(m)
-}
-
-// The sets of listed pair e.
-fn driving_set(m: &Memory, e: u64) -> u64 {
-    get(m, SETS, get(m, DRIVING, e))
-}
-
-fn inner_set(m: &Memory, e: u64) -> u64 {
-    get(m, SETS, get(m, PARTNER, e))
-}
-
-// The cost in its result's row after its turn: the least over the pairs of that set so far.
-fn standing(m: &Memory, e: u64, x: u64, y: u64) -> u64 {
-    let parts = sum(
-        get(m, COSTS, get(m, DRIVING, e)),
-        get(m, COSTS, get(m, PARTNER, e)),
-    );
-    let join = priced(m, x, y, parts);
-    least(get(m, STANDING, sum(x, y)), join.cost)
-}
-
-// The log's next entry.
-fn note(m: &mut Memory, w: u64, x: u64, y: u64, cost: u64) {
-    let at = number(m, PAIRS);
-    if at < LOG {
-        put_three(m, LOG_WORKERS, 2048, at, w, x, y);
-        put(m, LOG_COSTS, at, cost);
-    }
-}
-
-// Pair e is worker w's, whose next one is behind it in the chain.
-fn count_pair(m: &mut Memory, w: u64, e: u64) {
-    add(m, PAIRS as u64, 0, 1);
-    add(m, COUNTS, w, 1);
-    let later = get(m, WHOSE, e);
-    put(m, PLACES, w, later);
-}
-
-// Hands worker w its pair e.
-fn hand(m: &mut Memory, w: u64, e: u64) {
-    let x = driving_set(m, e);
-    let y = inner_set(m, e);
-    let cost = standing(m, e, x, y);
-    put(m, STANDING, sum(x, y), cost);
-    note(m, w, x, y, cost);
-    count_pair(m, w, e);
-}
-
-// One turn: its worker's next pair, or nothing.
-fn take_turn(m: &mut Memory) {
-    let w = whose_turn(m);
-    let e = get(m, PLACES, w);
-    add(m, TURN as u64, 0, 1);
-    if e < number(m, JOINABLE) {
-        hand(m, w, e);
-    }
-}
-
-// One size, until no pair is left.
-fn play_size(m: &mut Memory, size: u64) {
-    open(m, size);
-    for k in 0..sum(number(m, LISTED), number(m, JOINABLE)) {
-        if number(m, PAIRS) == number(m, DUE) {
-            return;
+    for pair in candidates.joinable.iter().rev() {
+        if let Some(worker) = candidates.worker(crew, pair)
+            && let Some(hand) = hands.get_mut(worker as usize)
+        {
+            hand.push(*pair)?;
         }
-        take_turn(m);
+    }
+    Ok(hands)
+}
+
+#[derive(Drop)]
+struct Game<'a> {
+    turns: slice::Iter<'a, u64>,
+    // By a result's set: the least cost of its pairs so far.
+    standing: BySet,
+    log: Vec<Entry>,
+}
+
+impl Game<'_> {
+    // Who has the turn: the next of the list, or at its end the lowest worker that has a pair left.
+    fn next_worker(&mut self, lowest: usize) -> usize {
+        match self.turns.next() {
+            Some(worker) => *worker as usize,
+            None => lowest,
+        }
+    }
+
+    fn take(&mut self, worker: usize, pair: Pair) -> Result<(), AllocError> {
+        let set = pair.driving | pair.inner;
+        let cost = lower(self.standing.of(set), pair.cost);
+        self.standing.put(set, cost);
+        self.log.push(Entry {
+            worker: worker as u64,
+            driving: pair.driving,
+            inner: pair.inner,
+            cost,
+        })?;
+        Ok(())
+    }
+
+    // One size, until no pair is left.
+    fn play(
+        &mut self,
+        alloc: Global,
+        candidates: &Candidates,
+        crew: &Crew,
+    ) -> Result<(), AllocError> {
+        let mut hands = dealt(alloc, candidates, crew)?;
+        for _ in 0..crew.turns.len().saturating_add(candidates.joinable.len()) {
+            let Some(lowest) = hands.iter().position(|hand| !hand.is_empty()) else {
+                break;
+            };
+            let worker = self.next_worker(lowest);
+            if let Some(hand) = hands.get_mut(worker)
+                && let Some(pair) = hand.pop()
+            {
+                self.take(worker, pair)?;
+            }
+        }
+        Ok(())
     }
 }
 
-// All turns.
-pub fn play(m: &mut Memory) {
-    let n = number(m, TABLES);
-    fill(m, STANDING, power(n), NEVER);
-    fill(m, PAIRS as u64, 10, 0);
-    for k in 1..n {
-        play_size(m, sum(k, 1));
+// The log of all turns, over the candidates of the sizes from two on.
+pub fn play(
+    alloc: Global,
+    query: &Query,
+    sizes: &[Candidates],
+    crew: &Crew,
+) -> Result<Vec<Entry>, AllocError> {
+    let mut game = Game {
+        standing: BySet::none(alloc, query)?,
+        log: Vec::new(alloc),
+        turns: crew.turns.iter(),
+    };
+    for candidates in sizes {
+        game.play(alloc, candidates, crew)?;
     }
+    Ok(game.log)
+}
+
+// The pairs of each worker.
+pub fn counts(log: &[Entry]) -> [u64; 8] {
+    let mut counts = [0u64; 8];
+    for w in 0..8 {
+        counts[w] = log.iter().filter(|entry| entry.worker == w as u64).count() as u64;
+    }
+    counts
 }

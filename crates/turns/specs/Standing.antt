@@ -1,5 +1,5 @@
 -- A turn, and the state that turns go through: said on places and memo alone.
-use Rattle.std.specs.Prelude.{◌≡◌, true, false, List, map, ℕ, ◌+◌, ◌-◌, ◌*◌, ◌≤◌, ◌<◌, length, get_or, set, take, drop}
+use Rattle.std.specs.Prelude.{◌≡◌, true, false, List, Option, Some, None, map, ℕ, ◌+◌, ◌-◌, ◌*◌, ◌≤◌, ◌<◌, length, get_or, set, take, drop}
 use Rattle.rules.specs.Limits.{max_workers, cost_bound}
 use Rattle.rules.specs.declared.Crew.{Crew}
 use Rattle.rules.specs.declared.Group.{Group}
@@ -20,6 +20,8 @@ use Rattle.turns.specs.Index.{index_of}
 use Rattle.crew.specs.declared.Worker.{Worker}
 use Rattle.crew.specs.declared.Handed as code
 use Rattle.crew.specs.Workers.{worker_at}
+use Rattle.shares.specs.declared.places.Spot.{Spot}
+use Rattle.shares.specs.Nowhere.{left}
 use Rattle.shares.specs.Shares.{few, ShareOf, share_of}
 use Rattle.pairs.specs.Places.{start_of, met_numbered, Fit, Ground, Waits, NextFrom}
 use Rattle.results.specs.Prices.{choice_at, price_by, Methods}
@@ -72,6 +74,12 @@ pub record Board (g : Graph) (fixed outer inner result sets estimates cells star
   pub reach : Reach g c
   pub below : (r : ℕ) → r < start_of g (top_of group + 1) → get_or c.costs r 0 < cost_bound
 
+-- what a turn of the group asks besides: the group fits, and the costs that it reads are within their limit
+pub record Open (g : Graph) (group : Group) (c : Columns) : Type 0 where
+  pub fit : Fit g group
+  pub reach : Reach g c
+  pub below : (r : ℕ) → r < start_of g (top_of group + 1) → get_or c.costs r 0 < cost_bound
+
 -- ---- workers
 -- "each with its own place", its share of the group, and no more pairs handed than candidates were met
 pub record Ready (g : Graph) (group : Group) (v : Worker) : Type 0 where
@@ -85,39 +93,39 @@ pub record InPlace (g : Graph) (group : Group) (crew : Crew) (workers : List Wor
   pub share : (w : ℕ) → w < crew.workers → (worker_at workers w).share ≡ share_of crew w (length (met g group))
 
 -- ---- a turn
--- the pair of the worker's place
-abbrev pub pair_at : Graph → Worker → Pair
-pair_at g v = record { driving = get_or (memo g) v.place.row 0; inner = get_or (memo g) v.place.inner 0 }
-
-abbrev pub no_pair : code.Handed
-no_pair = record { found = false; driving = 0; inner = 0; cost = 0 }
+-- the pair of a place
+abbrev pub pair_at : Graph → Spot → Pair
+pair_at g s = record { driving = get_or (memo g) s.row 0; inner = get_or (memo g) s.inner 0 }
 
 abbrev pub handed_pair : Pair → ℕ → code.Handed
-handed_pair p cost = record { found = true; driving = p.driving; inner = p.inner; cost = cost }
+handed_pair p cost = record { driving = p.driving; inner = p.inner; cost = cost }
 
 -- "it answers the pair handed .. and the new places, and changes only that pair's result row"
-pub record Handing (g : Graph) (fixed outer inner result : List ℕ) (group : Group) (v v' : Worker) (old new : Columns) (pair : code.Handed) : Type 0 where
+pub record Handing (g : Graph) (fixed outer inner result : List ℕ) (group : Group) (v v' : Worker) (old new : Columns) (pair : Option code.Handed) : Type 0 where
+  -- where the worker stands
+  pub spot : Spot
+  pub at : v.place.pair ≡ Some spot
   -- the result's row
   pub row : ℕ
-  pub row_from : start_of g (result_at group v.place.size) ≤ row
-  pub row-to : row < start_of g (result_at group v.place.size + 1)
-  pub row-set : get_or (memo g) row 0 ≡ union (pair_at g v)
+  pub row_from : start_of g (result_at group spot.size) ≤ row
+  pub row-to : row < start_of g (result_at group spot.size + 1)
+  pub row-set : get_or (memo g) row 0 ≡ union (pair_at g spot)
   -- "Both outer choices and all methods of a joinable pair are priced in one turn", or one outer choice, as the group says
   pub offer : Choice
-  pub best : Best (Offered (sides group.both (pair_at g v)) (length fixed) (join_in g fixed outer inner result old)) offer
+  pub best : Best (Offered (sides group.both (pair_at g spot)) (length fixed) (join_in g fixed outer inner result old)) offer
   pub changed : new ≡ stored old row (kept (choice_in old row) offer)
-  pub answer : pair ≡ handed_pair (pair_at g v) (kept (choice_in old row) offer).cost
+  pub answer : pair ≡ Some (handed_pair (pair_at g spot) (kept (choice_in old row) offer).cost)
   -- the worker goes on
   pub next : NextFrom g group v.share (v.place.number + 1) v'.place
   pub worker : v' ≡ record { share = v.share; place = v'.place; last = row; handed = v.handed + 1 }
 
 -- "A turn hands its worker that worker's next joinable pair; with none left it changes nothing."
-pub record StepTaken (g : Graph) (fixed outer inner result : List ℕ) (group : Group) (v v' : Worker) (old new : Columns) (pair : code.Handed) : Type 0 where
-  pub none : v.place.left ≡ false → (v' ≡ v) × (new ≡ old) × (pair ≡ no_pair)
-  pub some : v.place.left ≡ true → Handing g fixed outer inner result group v v' old new pair
+pub record StepTaken (g : Graph) (fixed outer inner result : List ℕ) (group : Group) (v v' : Worker) (old new : Columns) (pair : Option code.Handed) : Type 0 where
+  pub none : left v.place ≡ false → (v' ≡ v) × (new ≡ old) × (pair ≡ None)
+  pub some : left v.place ≡ true → Handing g fixed outer inner result group v v' old new pair
 
 -- a turn of worker w: no other worker moves
-pub record TurnTaken (g : Graph) (fixed outer inner result : List ℕ) (group : Group) (w : ℕ) (workers workers' : List Worker) (old new : Columns) (pair : code.Handed) : Type 0 where
+pub record TurnTaken (g : Graph) (fixed outer inner result : List ℕ) (group : Group) (w : ℕ) (workers workers' : List Worker) (old new : Columns) (pair : Option code.Handed) : Type 0 where
   pub step : StepTaken g fixed outer inner result group (worker_at workers w) (worker_at workers' w) old new pair
   pub others : workers' ≡ set workers w (worker_at workers' w)
 

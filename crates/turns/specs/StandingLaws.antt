@@ -1,5 +1,5 @@
 -- Opening a group, each turn and closing it: how the memo stands after them, by rules' laws.Progress.
-use Rattle.std.specs.Prelude.{◌≡◌, ◌⊎◌, cond, ℕ, suc, ◌+◌, ◌-◌, ◌*◌, ◌≤◌, ◌<◌}
+use Rattle.std.specs.Prelude.{◌≡◌, ◌⊎◌, cond, Option, ℕ, suc, ◌+◌, ◌-◌, ◌*◌, ◌≤◌, ◌<◌}
 use Rattle.std.proofs.Math.Path.{refl, ap}
 use Rattle.std.proofs.Common.{sym, ◌∙◌, inl, inr, ⊎_elim, get_or-set_same, get_or-set_other}
 use Rattle.std.proofs.Math.Bool.{true, false}
@@ -32,9 +32,12 @@ use Rattle.rules.proofs.laws.Progress as progress
 use Rattle.rules.specs.laws.Standing as standing
 use Rattle.crew.specs.declared.Worker.{Worker}
 use Rattle.shares.specs.declared.places.Place.{Place}
+use Rattle.shares.specs.declared.places.Spot.{Spot}
+use Rattle.shares.specs.Nowhere.{left}
 use Rattle.crew.specs.declared.Handed as code
 use Rattle.shares.specs.Shares.{few, share_of}
 use Rattle.pairs.specs.Places.{start_of, candidate_at, met_numbered, no_candidate, At, own_at, NextFrom, Fit}
+use Rattle.pairs.specs.LeftLaws.{left-none}
 use Rattle.pairs.specs.PlaceLaws.{start-mono, start-memo, met-few, group-fits}
 use Rattle.pairs.specs.GroundLaws.{at-number}
 use Rattle.turns.specs.Index.{index_of, index-cases, index_at}
@@ -89,7 +92,7 @@ inner-top group d l = go (true-or-false group.falling)
     go (inr e) = rw e (omega arith)
 
 -- the two rows of a place are rows that the group reads
-pub at-smaller : (g : Graph) (group : Group) (p : Place) → At g group p → (p.row < start_of g (top_of group + 1)) × (p.inner < start_of g (top_of group + 1))
+pub at-smaller : (g : Graph) (group : Group) {x : ℕ} (p : Spot) → At g group x p → (p.row < start_of g (top_of group + 1)) × (p.inner < start_of g (top_of group + 1))
 at-smaller g group p a =
     let t = inner-top group p.size a.from_one in
     (omega (arith, a.row-to, start-mono g (p.size + 1) (top_of group + 1) (omega (arith, a.to_last))), omega (arith, a.inner-to, start-mono g (inner_at group p.size + 1) (top_of group + 1) (omega arith)))
@@ -151,9 +154,9 @@ module _ {q : Query} {crew : Crew} {groups : Schedule} {turns : List ℕ} (work 
     standing-open c f = record { places = z; rows = progress.standing-open q crew groups k (places_of workers) none_before (row_in q.graph c) f }
 
   -- CLOSING: no worker has a pair left
-  module _ {workers : List Worker} (z : InPlace q.graph (groups k) crew workers) (none : (w : ℕ) → w < crew.workers → (worker_at workers w).place.left ≡ false) where
+  module _ {workers : List Worker} (z : InPlace q.graph (groups k) crew workers) (none : (w : ℕ) → w < crew.workers → left (worker_at workers w).place ≡ false) where
     all-before : (w : ℕ) → w < crew.workers → (x : Numbered) → Memᴰ x (met q.graph (groups k)) → mine q.graph crew (groups k) w x ≡ true → x.number < places_of workers w
-    all-before w l x i own = omega (arith, (met-number q.graph (groups k) x i).1, ap (λ (y : Place). y.number) ((z.ready w l).waits.none (none w l)))
+    all-before w l x i own = omega (arith, (met-number q.graph (groups k) x i).1, ap (λ (y : Place). y.number) ((z.ready w l).waits.none (left-none (worker_at workers w).place (none w l))))
 
     -- the group is one of those before the next
     pub sofar-before : (p : Pair) → standing.Sofar q crew groups k (places_of workers) p → standing.Before q crew groups (suc k) p
@@ -166,26 +169,27 @@ module _ {q : Query} {crew : Crew} {groups : Schedule} {turns : List ℕ} (work 
     standing-closed c st = progress.standing-closed q crew groups work.sound work.some-worker (table_count q.graph - 1) work.serves k one (places_of workers) (row_in q.graph c) all-before st.rows
 
   -- A TURN keeps it
-  module _ {workers workers' : List Worker} {old new : Columns} {pair : code.Handed} {w : ℕ} (worker : w < crew.workers) (reach : Reach q.graph old)
+  module _ {workers workers' : List Worker} {old new : Columns} {pair : Option code.Handed} {w : ℕ} (worker : w < crew.workers) (reach : Reach q.graph old)
       (st : Standing q crew groups k workers old) (t : TurnTaken q.graph q.fixed q.per_outer q.per_inner q.per_result (groups k) w workers workers' old new pair) where
     -- with none left nothing changes
-    turn-none : (worker_at workers w).place.left ≡ false → Standing q crew groups k workers' new
+    turn-none : left (worker_at workers w).place ≡ false → Standing q crew groups k workers' new
     turn-none none = rw (same-workers st.places worker t none, (t.step.none none).1) st
 
     -- the pair at its place is handed
-    module _ (left : (worker_at workers w).place.left ≡ true) where
+    module _ (has : left (worker_at workers w).place ≡ true) where
       h : Handing q.graph q.fixed q.per_outer q.per_inner q.per_result (groups k) (worker_at workers w) (worker_at workers' w) old new pair
-      h = t.step.some left
+      h = t.step.some has
 
-      at : At q.graph (groups k) (worker_at workers w).place
-      at = ((st.places.ready w worker).waits.there left).0
+      at : At q.graph (groups k) (places_of workers w) h.spot
+      unfolding h
+      at = ((st.places.ready w worker).waits.there h.spot h.at).0
 
       x : Numbered
       x = met_numbered q.graph (groups k) (places_of workers w)
 
-      is : (places_of workers w < length (met q.graph (groups k))) × (x ≡ candidate_at q.graph (groups k) (worker_at workers w).place.size (worker_at workers w).place.row (worker_at workers w).place.inner)
+      is : (places_of workers w < length (met q.graph (groups k))) × (x ≡ candidate_at q.graph (groups k) h.spot.size h.spot.row h.spot.inner)
       unfolding x
-      is = at-number q.graph (groups k) (worker_at workers w).place at
+      is = at-number q.graph (groups k) (places_of workers w) h.spot at
 
       stands : Memᴰ x (met q.graph (groups k))
       unfolding x
@@ -193,14 +197,14 @@ module _ {q : Query} {crew : Crew} {groups : Schedule} {turns : List ℕ} (work 
 
       own : mine q.graph crew (groups k) w x ≡ true
       unfolding x
-      own = own-mine st.places worker t left _ true ((st.places.ready w worker).waits.there left).1
+      own = own-mine st.places worker t has _ true ((st.places.ready w worker).waits.there h.spot h.at).1
 
       number : x.number ≡ places_of workers w
       number = ap (λ (y : Numbered). y.number) is.1 ∙ sym at.number
 
       -- what it offers
       abbrev p : Pair
-      p = pair_at q.graph (worker_at workers w)
+      p = pair_at q.graph h.spot
 
       sets : sets_of x ≡ p
       sets = λ i. record { driving = (is.1 i).candidate.driving; inner = (is.1 i).candidate.inner }
@@ -217,7 +221,7 @@ module _ {q : Query} {crew : Crew} {groups : Schedule} {turns : List ℕ} (work 
 
       -- the row that it goes to
       row_inside : h.row < length (memo q.graph)
-      row_inside = omega (arith, h.row-to, start-memo q.graph (result_at (groups k) (worker_at workers w).place.size + 1) (omega (arith, at.to_last)))
+      row_inside = omega (arith, h.row-to, start-memo q.graph (result_at (groups k) h.spot.size + 1) (omega (arith, at.to_last)))
 
       set_is : get_or (memo q.graph) h.row 0 ≡ union (sets_of x)
       unfolding h
@@ -265,7 +269,7 @@ module _ {q : Query} {crew : Crew} {groups : Schedule} {turns : List ℕ} (work 
         where
           go : Dec (y.number < places_of workers' w) → places_of workers' w ≤ y.number
           go (yes u) =
-              let e : mine q.graph crew (groups k) w (met_numbered q.graph (groups k) y.number) ≡ false = own-mine st.places worker t left y.number false (h.next.clear y.number (omega arith) u) in
+              let e : mine q.graph crew (groups k) w (met_numbered q.graph (groups k) y.number) ≡ false = own-mine st.places worker t has y.number false (h.next.clear y.number (omega arith) u) in
               absurd (not-both (mine q.graph crew (groups k) w y) o (rw (met-number q.graph (groups k) y i).0 at e))
           go (no v) = omega arith
 
@@ -287,7 +291,7 @@ module _ {q : Query} {crew : Crew} {groups : Schedule} {turns : List ℕ} (work 
       turn-less = progress.sofar-less q crew groups k (places_of workers) (places_of workers') w worker x stands own number (omega (arith, h.next.ahead)) next (other_place st.places worker t)
 
       -- its result's row is the best of the pairs handed for it
-      pub turn-stood : standing.Stood q (standing.Sofar q crew groups k (places_of workers')) (union (pair_of (hand_at q.graph (groups k) workers w))) (choice_in new (t.step.some left).row)
+      pub turn-stood : standing.Stood q (standing.Sofar q crew groups k (places_of workers')) (union (pair_of (hand_at q.graph (groups k) workers w))) (choice_in new (t.step.some has).row)
       unfolding x h
       turn-stood =
           let j = progress.sofar-joinable q crew groups k (places_of workers') (sets_of x) (turn_more (sets_of x) (inr refl)) in
@@ -295,4 +299,4 @@ module _ {q : Query} {crew : Crew} {groups : Schedule} {turns : List ℕ} (work 
           rw (row_at q.graph new h.row (union (sets_of x)) row_inside set_is) at (turn-some.rows.rows (union (sets_of x)) c (results-large q crew work.some-worker (table_count q.graph - 1) groups work.serves k one known (sets_of x) j (met-sized q.graph (groups k) x stands)))
 
     pub standing-turn : Standing q crew groups k workers' new
-    standing-turn = ⊎_elim turn-some turn-none (true-or-false (worker_at workers w).place.left)
+    standing-turn = ⊎_elim turn-some turn-none (true-or-false (left (worker_at workers w).place))

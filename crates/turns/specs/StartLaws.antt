@@ -1,6 +1,6 @@
 -- Before the first turn: the rows of one table, the memo as laying out leaves it, and what a turn works on.
-use Rattle.std.specs.Prelude.{◌≡◌, refl, List, [], ◌∷◌, ◌++◌, map, ℕ, zero, suc, ◌+◌, ◌-◌, ◌≤◌, ◌<◌, length, get_or, set, take, replicate}
-use Rattle.std.proofs.Common.{sym, ap, ◌∙◌, zero-add, add-one, arith, length-take, take-suc, get_or-set_other}
+use Rattle.std.specs.Prelude.{◌≡◌, refl, Option, List, [], ◌∷◌, ◌++◌, map, ℕ, zero, suc, ◌+◌, ◌-◌, ◌≤◌, ◌<◌, length, get_or, set, take, replicate}
+use Rattle.std.proofs.Common.{sym, ap, ◌∙◌, zero-add, arith, get_or-set_other}
 use Rattle.std.proofs.Math.Decide.{dec_lt}
 use Rattle.std.proofs.lemmas.List.{length-replicate, get_or-replicate}
 use Rattle.rules.specs.Limits.{max_fixed, max_coefficient, cost_bound}
@@ -30,24 +30,16 @@ use Rattle.rows.specs.WalkLaws.{walk-hit, walk-few, walk_step, rows_start, up_to
 use Rattle.skips.specs.Vectors.{written}
 use Rattle.starts.specs.Starts.{counts_to, starts, cells_to, cell_starts}
 use Rattle.memo.specs.LayoutLaws.{written_over, front, still-long}
-use Rattle.starts.specs.CountLaws.{written-push, counts-at, length-starts}
+use Rattle.starts.specs.CountLaws.{counts-at, length-starts}
 use Rattle.pairs.specs.Places.{start_of, Fit, Ground}
 use Rattle.pairs.specs.PlaceLaws.{start-next, start-mono, start-memo, memo-inside, memo-row}
 use Rattle.results.specs.Prices.{Methods}
-use Rattle.turns.specs.Standing.{Columns, choice_in, row_in, top_of, result_at, Reach, Board, Handing, Final}
+use Rattle.turns.specs.Standing.{Columns, choice_in, row_in, top_of, result_at, Reach, Open, Handing, Final}
 use Rattle.crew.specs.declared.Worker.{Worker}
 use Rattle.crew.specs.declared.Handed as code
 use Rattle.turns.specs.Index.{index_of, index_at}
 
 -- ---- lists
--- a list copied to the front of another: one more of its values
-pub copied_more : (v d : List ℕ) (i : ℕ) {l : List ℕ} → i < length v → l ≡ written d 0 (take i v) → set l i (get_or v i 0) ≡ written d 0 (take (i + 1) v)
-copied_more v d i h e =
-    rw e (
-    written-push d 0 i (take i v) (get_or v i 0) (omega (arith, length-take i v))
-    ∙ ap (written d 0) (sym (ap (λ (k : ℕ). take k v) (add-one i) ∙ take-suc v i 0 h))
-    )
-
 -- what stands in the written part, and behind it
 written_at : (v d : List ℕ) (j : ℕ) → length v ≤ length d → j < length v → get_or (written d 0 v) j 0 ≡ get_or v j 0
 written_at v d j l h = ap (λ (x : List ℕ). get_or x j 0) (written_over v d l) ∙ over-at v d j h
@@ -119,8 +111,8 @@ module _ (g : Graph) where
   tables-fit good = omega (arith, start-two, start-memo g 2 (omega (arith, good.some-table)))
 
 -- the row of a pair's result is one of the memo
-pub handing-inside : {g : Graph} {fixed outer inner result : List ℕ} {group : Group} {v v' : Worker} {old new : Columns} {pair : code.Handed} (h : Handing g fixed outer inner result group v v' old new pair) → h.row < length (memo g)
-handing-inside {g} {group = group} {v = v} h = go (result_at group v.place.size) h.row_from h.row-to
+pub handing-inside : {g : Graph} {fixed outer inner result : List ℕ} {group : Group} {v v' : Worker} {old new : Columns} {pair : Option code.Handed} (h : Handing g fixed outer inner result group v v' old new pair) → h.row < length (memo g)
+handing-inside {g} {group = group} h = go (result_at group h.spot.size) h.row_from h.row-to
   where
     go : (z : ℕ) → start_of g z ≤ h.row → h.row < start_of g (z + 1) → h.row < length (memo g)
     go zero a b = let e : 0 + 1 ≡ 1 = omega arith in absurd (omega (arith, start-one g, ap (start_of g) e))
@@ -249,12 +241,6 @@ pub ground-of : (g : Graph) (old_sets old_cells old_starts old_cell_starts : Lis
     → Ground g sets cells starts₁ cell_starts₁
 ground-of g old_sets old_cells old_starts old_cell_starts a b c d e f h i = ground-at g old_starts old_cell_starts (front (memo g) old_sets a refl e) (front (skips g) old_cells b refl f) c d h i
 
--- a checked query whose memo is laid out: what no turn changes
-pub record Prepared (q : Query) (sets estimates cells starts cell_starts : List ℕ) : Type 0 where
-  pub sound : Sound q
-  pub footing : Ground q.graph sets cells starts cell_starts
-  pub estimated : take (length (memo q.graph)) estimates ≡ map (estimate q.graph) (memo q.graph)
-
 -- estimates as laying out leaves them
 pub estimated-of : (g : Graph) (old : List ℕ) {estimates : List ℕ} → length (memo g) ≤ length old → estimates ≡ written old 0 (map (estimate g) (memo g)) → take (length (memo g)) estimates ≡ map (estimate g) (memo g)
 estimated-of g old h e =
@@ -285,18 +271,8 @@ methods-of q z =
     }
 
 -- with the sets that the group reads final, as `Final` and `Standing` say, a turn of it may be taken
-pub board-of : {q : Query} {sets estimates cells starts cell_starts : List ℕ} {group : Group} {c : Columns} → Prepared q sets estimates cells starts cell_starts → Fit q.graph group → top_of group ≤ table_count q.graph → Reach q.graph c
-    → ((S : ℕ) → Connected q.graph S → size S ≤ top_of group → standing.FinalRow q S (row_in q.graph c S))
-    → Board q.graph q.fixed q.per_outer q.per_inner q.per_result sets estimates cells starts cell_starts group c
-board-of {q} {group = group} {c = c} p fit top reach final = record {
-  graph = p.sound.graph;
-  fit = fit;
-  methods = methods-of q p.sound;
-  footing = p.footing;
-  estimated = p.estimated;
-  reach = reach;
-  below = below;
-}
+pub open-of : {q : Query} {group : Group} {c : Columns} → Sound q → Fit q.graph group → top_of group ≤ table_count q.graph → Reach q.graph c → ((S : ℕ) → Connected q.graph S → size S ≤ top_of group → standing.FinalRow q S (row_in q.graph c S)) → Open q.graph group c
+open-of {q} {group} {c} sound fit top reach final = record { fit = fit; reach = reach; below = below }
   where
     below : (r : ℕ) → r < start_of q.graph (top_of group + 1) → get_or c.costs r 0 < cost_bound
     below r l =
@@ -305,4 +281,4 @@ board-of {q} {group = group} {c = c} p fit top reach final = record {
         let d = memo-only q.graph S (at_in 0 (memo q.graph) r h) in
         let x : index_of (memo q.graph) S ≡ r = index_at (memo q.graph) (memo-once q.graph) r S h refl in
         let f : standing.FinalRow q S (choice_in c r) = rw x at (final S d (row_small q.graph (top_of group) r h l)) in
-        least-below q p.sound S (get_or c.costs r 0) f.least
+        least-below q sound S (get_or c.costs r 0) f.least

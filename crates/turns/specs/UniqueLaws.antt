@@ -1,12 +1,16 @@
 -- Any two answers that the contracts of places, turns, opening, lowest workers and prices allow are equal.
-use Rattle.std.specs.Prelude.{◌≡◌, List, ℕ, ◌+◌, ◌≤◌, ◌<◌, set}
+use Rattle.std.specs.Prelude.{◌≡◌, List, Option, Some, ℕ, ◌+◌, ◌≤◌, ◌<◌, set}
 use Rattle.std.proofs.Common.{sym, ap, ◌∙◌, ⊎_elim, le_antisymm, arith}
+use Rattle.std.proofs.lemmas.Option.{same_Some}
 use Rattle.rules.specs.declared.Group.{Group}
 use Rattle.rules.specs.Query.{Graph}
 use Rattle.rules.specs.laws.Bools.{true-or-false, not-both}
 use Rattle.rules.specs.Offers as rules
 use Rattle.rules.specs.laws.Choice.{Best, best-unique}
 use Rattle.results.specs.declared.price.Choice.{Choice}
+use Rattle.shares.specs.declared.places.Spot.{Spot}
+use Rattle.shares.specs.Nowhere.{left}
+use Rattle.rules.specs.Offers.{union}
 use Rattle.crew.specs.declared.Worker.{Worker}
 use Rattle.crew.specs.declared.Handed as code
 use Rattle.rules.specs.laws.Choice.{kept}
@@ -17,16 +21,17 @@ use Rattle.pairs.specs.UniqueLaws.{row_one, next-unique}
 use Rattle.crew.specs.Whose.{LowestLeft}
 
 -- ---- turns
-module _ {g : Graph} {fixed outer inner result : List ℕ} {group : Group} {old new new' : Columns} {pair pair' : code.Handed} where
+module _ {g : Graph} {fixed outer inner result : List ℕ} {group : Group} {old new new' : Columns} {pair pair' : Option code.Handed} where
   -- a pair is handed in one way
   handing-unique : {v v' v'' : Worker} → Handing g fixed outer inner result group v v' old new pair → Handing g fixed outer inner result group v v'' old new' pair' → (v' ≡ v'') × (new ≡ new') × (pair ≡ pair')
   handing-unique {v} h h' =
-      let r = row_one g _ _ h.row_from h.row-to h'.row_from h'.row-to (h.row-set ∙ sym h'.row-set) in
-      let o = best-unique h.best h'.best in
+      let s = same_Some _ _ (sym h.at ∙ h'.at) in
+      let r = row_one g _ _ h.row_from h.row-to h'.row_from h'.row-to (h.row-set ∙ ap (λ (p : Spot). union (pair_at g p)) s ∙ sym h'.row-set) in
+      let o = best-unique h.best (rw s h'.best) in
       let p = next-unique h.next h'.next in (
         h.worker ∙ (λ t. record { share = v.share; place = p t; last = r t; handed = v.handed + 1 }) ∙ sym h'.worker,
         h.changed ∙ (λ t. stored old (r t) (kept (choice_in old (r t)) (o t))) ∙ sym h'.changed,
-        h.answer ∙ (λ t. handed_pair (pair_at g v) (kept (choice_in old (r t)) (o t)).cost) ∙ sym h'.answer,
+        h.answer ∙ (λ t. Some (handed_pair (pair_at g (s t)) (kept (choice_in old (r t)) (o t)).cost)) ∙ sym h'.answer,
       )
 
   -- a step has one outcome
@@ -34,7 +39,7 @@ module _ {g : Graph} {fixed outer inner result : List ℕ} {group : Group} {old 
   step-unique {v} z z' =
       ⊎_elim (λ e. handing-unique (z.some e) (z'.some e))
       (λ e. let a = z.none e in let b = z'.none e in (a.0 ∙ sym b.0, a.1 ∙ sym b.1, a.2 ∙ sym b.2))
-      (true-or-false v.place.left)
+      (true-or-false (left v.place))
 
   -- a turn too
   pub turn-unique : {w : ℕ} {workers workers' workers'' : List Worker} → TurnTaken g fixed outer inner result group w workers workers' old new pair → TurnTaken g fixed outer inner result group w workers workers'' old new' pair'
@@ -45,7 +50,7 @@ module _ {g : Graph} {fixed outer inner result : List ℕ} {group : Group} {old 
 -- no lower worker has a pair left
 lowest-le : {workers : List Worker} {m r r' : ℕ} → LowestLeft workers m r → LowestLeft workers m r' → r ≤ r'
 lowest-le {workers} {r = r} {r' = r'} z z' =
-    let n : r' < r → ⊥ = λ l. not-both (worker_at workers r').place.left (z'.left (omega (arith, z.inside))) (z.lower r' l) in
+    let n : r' < r → ⊥ = λ l. not-both (left (worker_at workers r').place) (z'.left (omega (arith, z.inside))) (z.lower r' l) in
     omega arith
 
 -- one worker is the lowest with a pair left

@@ -2,4 +2,5 @@
 #![tactic(auto)]
 
 pub mod scans;
+pub mod setting;
 pub mod turn;

@@ -7,7 +7,5 @@ pub fn lay_scans(scans: &[u64], costs: &mut [u64])
     requires { length scans.now ≤ length costs.old }
     ensures { costs.new ≡ written costs.old 0 scans.now }
 {
-    for i in 0..scans.len() {
-        costs[i] = scans[i];
-    }
+    costs[..scans.len()].copy_from_slice(scans);
 }

@@ -1,9 +1,8 @@
 -- The lines of an answer as runs of bytes, one for each field.
 use Rattle.std.specs.Prelude.{◌≡◌, refl, List, [], ◌∷◌, ◌++◌, ℕ}
 use Rattle.std.proofs.Common.{sym, ap, ◌∙◌, append_assoc}
-use Rattle.rules.specs.declared.Verdict.{Verdict}
 use Rattle.rules.specs.Lines.{newline}
-use Rattle.rules.specs.Writing.{blank, digits_of, set_text, follow, answer_line, plan_line, join_line, refusal_line}
+use Rattle.rules.specs.Writing.{blank, digits_of, set_text, follow, answer_line, join_line}
 
 -- a field before the rest of a line
 field : (p : List ℕ) (ps : List (List ℕ)) (rest : List ℕ) → rest ≡ follow blank ps ++ (newline ∷ []) → (blank ∷ p) ++ rest ≡ follow blank (p ∷ ps) ++ (newline ∷ [])
@@ -25,15 +24,7 @@ pub five-line : (letter : ℕ) (p r s t u : List ℕ)
     → (letter ∷ []) ++ ((blank ∷ p) ++ ((blank ∷ r) ++ ((blank ∷ s) ++ ((blank ∷ t) ++ ((blank ∷ u) ++ (newline ∷ [])))))) ≡ answer_line letter (p ∷ r ∷ s ∷ t ∷ u ∷ [])
 five-line letter p r s t u = line letter _ _ (field p _ _ (field r _ _ (field s _ _ (field t _ _ (field u _ _ last)))))
 
--- ---- the lines' names
-pub plan-is : (best pairs : ℕ) → answer_line 80 (digits_of best ∷ digits_of pairs ∷ []) ≡ plan_line best pairs
-unfolding plan_line
-plan-is best pairs = refl
-
-pub refusal_is : (v : Verdict) → answer_line 88 (digits_of v.number ∷ digits_of v.place ∷ []) ≡ refusal_line v
-unfolding refusal_line
-refusal_is v = refl
-
+-- a J line
 pub join_is : (n x y m e c : ℕ)
     → (74 ∷ []) ++ ((blank ∷ set_text n x) ++ ((blank ∷ set_text n y) ++ ((blank ∷ digits_of m) ++ ((blank ∷ digits_of e) ++ ((blank ∷ digits_of c) ++ (newline ∷ [])))))) ≡ join_line n x y m e c
 unfolding join_line

@@ -3,7 +3,6 @@ use Rattle.std.specs.Prelude.{◌≡◌, refl, ℕ, ◌+◌, ◌-◌, ◌^◌, �
 use Rattle.std.proofs.Common.{sym, ap, ◌∙◌, subst, arith, lit≤}
 use mathlib.Core.List.{List, Memᴰ, [], ◌++◌}
 use Rattle.std.proofs.Math.Nat.{pow-le-pow_right}
-use Rattle.std.proofs.Math.Decide.{ℕ_discrete}
 use Rattle.rules.specs.declared.Step.{Step}
 use Rattle.rules.specs.declared.Step.TheVariants.{Scan, Join}
 use Rattle.rules.specs.declared.JoinStep.{JoinStep}
@@ -17,27 +16,11 @@ use Rattle.rules.specs.Writing.{join_line, join_lines}
 use Rattle.rules.specs.laws.Sets.{size-pow, size-sum, size-pos, holds-single-only}
 use Rattle.rules.proofs.laws.Bellman.{tables_of-pos, least-unique, pick-unique}
 use Rattle.rules.proofs.laws.Picked.{picked-parts, picked-in, picked-below, picked-least}
+use Rattle.digits.specs.declared.Line.{Line}
 use Rattle.digits.specs.Put.{Put}
+use Rattle.writer.specs.declared.joins.Memo.{Memo}
 use Rattle.writer.specs.Plans.{Rooted, Kept, ToPut}
 use Rattle.digits.specs.PutLaws.{put-none, put_then, put_as, Room, room_of, room-first, room-then}
-
--- ---- looking for a row
--- the row of S is the place, or behind it
-pub record Ahead (sets : List ℕ) (S row : ℕ) : Type 0 where
-  pub at : ℕ
-  pub behind : row ≤ at
-  pub inside : at < length sets
-  pub holds : get_or sets at 0 ≡ S
-
-pub ahead-start : (sets : List ℕ) (S : ℕ) → ((j : ℕ) × (j < length sets) × (get_or sets j 0 ≡ S)) → Ahead sets S 0
-ahead-start sets S h = record { at = h.0; behind = omega arith; inside = h.1; holds = h.2 }
-
-pub ahead-on : {sets : List ℕ} {S row : ℕ} → Ahead sets S row → (get_or sets row 0 ≡ S → ⊥) → Ahead sets S (row + 1)
-ahead-on {sets} {S} {row} h z = record { at = h.at; behind = go (ℕ_discrete row h.at); inside = h.inside; holds = h.holds }
-  where
-    go : Dec (row ≡ h.at) → row + 1 ≤ h.at
-    go (yes e) = absurd (z (rw e h.holds))
-    go (no y) = omega (arith, h.behind)
 
 -- ---- what a row says of the root
 pub root-scan : (t : Tree) (S x m low : ℕ) → x ≡ 0 → Lowest S low → Rooted t S x m → Scan low ≡ step_of t
@@ -118,48 +101,48 @@ join-lines {q} {t} {x} {y} {m} p n est cost e f g =
     rw (p.whole, e, f', g', ← p.outer-covers, ← p.inner-covers) refl
 
 -- ---- a memo's row
-module _ {q : Query} {n : ℕ} {sets estimates costs outers methods : List ℕ} (k : Kept q n sets estimates costs outers methods) where
+module _ {q : Query} {m : Memo} (k : Kept q m) where
   -- the set that is to be put has a row
-  pub row-stands : {S at room : ℕ} → ToPut q S at room → (j : ℕ) × (j < length sets) × (get_or sets j 0 ≡ S)
+  pub row-stands : {S : ℕ} {line : Line} → ToPut q S line → (j : ℕ) × (j < length m.sets.now) × (get_or m.sets.now j 0 ≡ S)
   row-stands {S} p = k.stands S (subst (λ (X : ℕ). Memᴰ X (memo q.graph)) p.covers (picked-in q p.tree p.picked))
 
-  pub few-tables : n ≤ 32
+  pub few-tables : m.tables ≤ 32
   few-tables = omega (arith, k.few)
 
-  pub in-estimates : (row : ℕ) → row < length sets → row < length estimates
+  pub in-estimates : (row : ℕ) → row < length m.sets.now → row < length m.estimates.now
   in-estimates row l = omega (arith, k.lengths.0)
 
-  pub in-costs : (row : ℕ) → row < length sets → row < length costs
+  pub in-costs : (row : ℕ) → row < length m.sets.now → row < length m.costs.now
   in-costs row l = omega (arith, k.lengths.1)
 
-  pub in-outers : (row : ℕ) → row < length sets → row < length outers
+  pub in-outers : (row : ℕ) → row < length m.sets.now → row < length m.outers.now
   in-outers row l = omega (arith, k.lengths.2)
 
-  pub in-methods : (row : ℕ) → row < length sets → row < length methods
+  pub in-methods : (row : ℕ) → row < length m.sets.now → row < length m.methods.now
   in-methods row l = omega (arith, k.lengths.3)
 
-  module _ (row : ℕ) {S : ℕ} (l : row < length sets) (e : get_or sets row 0 ≡ S) where
+  module _ (row : ℕ) {S : ℕ} (l : row < length m.sets.now) (e : get_or m.sets.now row 0 ≡ S) where
     -- what it says of the tree of its set
-    said : (t : Tree) → Picked q t → tables_of t ≡ S → (get_or estimates row 0 ≡ estimate q.graph (tables_of t)) × Row q (tables_of t) (get_or costs row 0) (get_or outers row 0) (get_or methods row 0)
+    said : (t : Tree) → Picked q t → tables_of t ≡ S → (get_or m.estimates.now row 0 ≡ estimate q.graph (tables_of t)) × Row q (tables_of t) (get_or m.costs.now row 0) (get_or m.outers.now row 0) (get_or m.methods.now row 0)
     said t p f =
-        let g : get_or sets row 0 ≡ tables_of t = e ∙ sym f in
+        let g : get_or m.sets.now row 0 ≡ tables_of t = e ∙ sym f in
         let h = k.holds row (subst (λ (X : ℕ). Memᴰ X (memo q.graph)) (sym g) (picked-in q t p)) l in
-        subst (λ (X : ℕ). (get_or estimates row 0 ≡ estimate q.graph X) × Row q X (get_or costs row 0) (get_or outers row 0) (get_or methods row 0)) g h
+        subst (λ (X : ℕ). (get_or m.estimates.now row 0 ≡ estimate q.graph X) × Row q X (get_or m.costs.now row 0) (get_or m.outers.now row 0) (get_or m.methods.now row 0)) g h
 
-    rooted : (t : Tree) → Picked q t → tables_of t ≡ S → Rooted t S (get_or outers row 0) (get_or methods row 0)
-    rooted t p f = subst (λ (X : ℕ). Rooted t X (get_or outers row 0) (get_or methods row 0)) f (picked-rooted q t (get_or costs row 0) (get_or outers row 0) (get_or methods row 0) p (said t p f).1)
+    rooted : (t : Tree) → Picked q t → tables_of t ≡ S → Rooted t S (get_or m.outers.now row 0) (get_or m.methods.now row 0)
+    rooted t p f = subst (λ (X : ℕ). Rooted t X (get_or m.outers.now row 0) (get_or m.methods.now row 0)) f (picked-rooted q t (get_or m.costs.now row 0) (get_or m.outers.now row 0) (get_or m.methods.now row 0) p (said t p f).1)
 
     -- what reading its step asks
-    pub step_fits : {at room : ℕ} → ToPut q S at room → (0 < S) × (S < 2 ^ 32) × (get_or outers row 0 ≤ S)
+    pub step_fits : {line : Line} → ToPut q S line → (0 < S) × (S < 2 ^ 32) × (get_or m.outers.now row 0 ≤ S)
     step_fits p =
         let b = picked-below q p.tree p.picked in
         let w : 2 ^ table_count q.graph ≤ 2 ^ 32 = pow-le-pow_right {n = 2} (lit≤ tt) {i = table_count q.graph} {j = 32} (omega (arith, k.tables, k.few)) in
-        (omega (arith, tables_of-pos p.tree, p.covers), omega (arith, b, w, p.covers), outer-le p.tree S (get_or outers row 0) (get_or methods row 0) (rooted p.tree p.picked p.covers))
+        (omega (arith, tables_of-pos p.tree, p.covers), omega (arith, b, w, p.covers), outer-le p.tree S (get_or m.outers.now row 0) (get_or m.methods.now row 0) (rooted p.tree p.picked p.covers))
 
-    module _ {step : Step} (s : (t : Tree) → Rooted t S (get_or outers row 0) (get_or methods row 0) → step ≡ step_of t) where
+    module _ {step : Step} (s : (t : Tree) → Rooted t S (get_or m.outers.now row 0) (get_or m.methods.now row 0) → step ≡ step_of t) where
       -- ---- it says a scan
-      pub scan-put : {u : ℕ} → step ≡ Scan u → (out : List ℕ) (at : ℕ) (t : Tree) → Picked q t → tables_of t ≡ S → Put out out at at (join_lines q t)
-      scan-put {u} g out at t p f = put_as (scan-lines q t u (sym (s t (rooted t p f)) ∙ g)) (put-none out at)
+      pub scan-put : {u : ℕ} → step ≡ Scan u → (line : Line) (t : Tree) → Picked q t → tables_of t ≡ S → Put line line (join_lines q t)
+      scan-put {u} g line t p f = put_as (scan-lines q t u (sym (s t (rooted t p f)) ∙ g)) (put-none line)
 
       -- ---- it says a join
       module _ {j : JoinStep} (g : step ≡ Join j) where
@@ -168,49 +151,49 @@ module _ {q : Query} {n : ℕ} {sets estimates costs outers methods : List ℕ} 
 
         -- its own line
         abbrev own : List ℕ
-        own = join_line n j.outer j.inner j.method (get_or estimates row 0) (get_or costs row 0)
+        own = join_line m.tables j.outer j.inner j.method (get_or m.estimates.now row 0) (get_or m.costs.now row 0)
 
         lines : (t : Tree) (p : Picked q t) (f : tables_of t ≡ S) → join_lines q (parts t p f).a ++ (join_lines q (parts t p f).b ++ own) ≡ join_lines q t
         lines t p f =
             let r = said t p f in
-            join-lines (parts t p f) n (get_or estimates row 0) (get_or costs row 0) k.tables r.0 (least-unique r.1.least (picked-least q t p))
+            join-lines (parts t p f) m.tables (get_or m.estimates.now row 0) (get_or m.costs.now row 0) k.tables r.0 (least-unique r.1.least (picked-least q t p))
 
         -- both parts are smaller sets
-        pub outer-less : {at room : ℕ} (i : ℕ) → S ≡ i → ToPut q S at room → j.outer < i
+        pub outer-less : {line : Line} (i : ℕ) → S ≡ i → ToPut q S line → j.outer < i
         outer-less i h p =
             let a = parts p.tree p.picked p.covers in
             omega (arith, parts-sum a, a.inner-covers, tables_of-pos a.b, p.covers)
 
-        pub inner-less : {at room : ℕ} (i : ℕ) → S ≡ i → ToPut q S at room → j.inner < i
+        pub inner-less : {line : Line} (i : ℕ) → S ≡ i → ToPut q S line → j.inner < i
         inner-less i h p =
             let a = parts p.tree p.picked p.covers in
             omega (arith, parts-sum a, a.outer-covers, tables_of-pos a.a, p.covers)
 
         -- there is room for both, and for its own line
-        pub outer-fits : {at room : ℕ} → ToPut q S at room → ToPut q j.outer at room
-        outer-fits p =
+        pub outer-fits : {line : Line} → ToPut q S line → ToPut q j.outer line
+        outer-fits {line} p =
             let a = parts p.tree p.picked p.covers in
-            record { tree = a.a; picked = a.outer-picked; covers = a.outer-covers; room-left = room-first (join_lines q a.a) _ (room_of (lines p.tree p.picked p.covers) p.room-left) }
+            record { tree = a.a; picked = a.outer-picked; covers = a.outer-covers; room-left = room-first (join_lines q a.a) _ (room_of line (lines p.tree p.picked p.covers) p.room-left) }
 
-        module _ {out mid : List ℕ} {at m : ℕ} (put₁ : (t : Tree) → Picked q t → tables_of t ≡ j.outer → Put out mid at m (join_lines q t)) where
-          rest : (p : ToPut q S at (length out)) → Room m (length mid) (join_lines q (parts p.tree p.picked p.covers).b ++ own)
+        module _ {out mid : Line} (put₁ : (t : Tree) → Picked q t → tables_of t ≡ j.outer → Put out mid (join_lines q t)) where
+          rest : (p : ToPut q S out) → Room mid (join_lines q (parts p.tree p.picked p.covers).b ++ own)
           rest p =
               let a = parts p.tree p.picked p.covers in
-              room-then (join_lines q a.b ++ own) (put₁ a.a a.outer-picked a.outer-covers) (room_of (lines p.tree p.picked p.covers) p.room-left)
+              room-then (join_lines q a.b ++ own) (put₁ a.a a.outer-picked a.outer-covers) (room_of _ (lines p.tree p.picked p.covers) p.room-left)
 
-          pub inner-fits : ToPut q S at (length out) → ToPut q j.inner m (length mid)
+          pub inner-fits : ToPut q S out → ToPut q j.inner mid
           inner-fits p =
               let a = parts p.tree p.picked p.covers in
               record { tree = a.b; picked = a.inner-picked; covers = a.inner-covers; room-left = room-first (join_lines q a.b) own (rest p) }
 
-          module _ {last : List ℕ} {r : ℕ} (put₂ : (t : Tree) → Picked q t → tables_of t ≡ j.inner → Put mid last m r (join_lines q t)) where
-            pub own-fits : ToPut q S at (length out) → r + length own ≤ length last
+          module _ {last : Line} (put₂ : (t : Tree) → Picked q t → tables_of t ≡ j.inner → Put mid last (join_lines q t)) where
+            pub own-fits : ToPut q S out → last.at + length own ≤ length last.out.now
             own-fits p =
                 let a = parts p.tree p.picked p.covers in
                 (room-then own (put₂ a.b a.inner-picked a.inner-covers) (rest p)).left
 
             -- and then all is put
-            pub join-put : {done : List ℕ} {end : ℕ} → Put last done r end own → (t : Tree) → Picked q t → tables_of t ≡ S → Put out done at end (join_lines q t)
+            pub join-put : {done : Line} → Put last done own → (t : Tree) → Picked q t → tables_of t ≡ S → Put out done (join_lines q t)
             join-put z t p f =
                 let a = parts t p f in
                 put_as (lines t p f) (put_then (put₁ a.a a.outer-picked a.outer-covers) (put_then (put₂ a.b a.inner-picked a.inner-covers) z))

@@ -7,18 +7,30 @@ ghost use Rattle.digits.specs.Put.{Put};
 ghost use Rattle.writer.specs.Plans.{Rooted, Kept, ToPut};
 
 use super::lines::put_join;
+use digits::Line;
 use rules::{JoinStep, Step};
 use sets::lowest_table;
+
+// The memo of a plan of so many tables, as planning left it: a column for each field of a row.
+#[derive(Clone, Copy)]
+pub struct Memo<'a> {
+    pub tables: u64,
+    pub sets: &'a [u64],
+    pub estimates: &'a [u64],
+    pub costs: &'a [u64],
+    pub outers: &'a [u64],
+    pub methods: &'a [u64],
+}
 
 // The row of a set that has one.
 fn row_of(sets: &[u64], set: u64) -> usize
     requires { (j : ℕ) × (j < length sets.now) × (get_or sets.now j 0 ≡ set) }
     ensures { (result < length sets.now) × (get_or sets.now result 0 ≡ set) }
 {
-    let mut row = 0;
-    while sets[row] != set {
-        row += 1;
-    }
+    let Some(row) = sets.iter().position(|&s| s == set) else {
+        // The clause says that the set has a row.
+        unreachable!()
+    };
     row
 }
 
@@ -31,38 +43,30 @@ fn step_of(set: u64, outer: u64, method: u64) -> Step
         return Step::Scan(lowest_table(set));
     }
     Step::Join(JoinStep {
-        outer: outer,
+        outer,
         inner: set - outer,
-        method: method,
+        method,
     })
 }
 
-// The lines of the joins of `set`'s plan, from the memo of a plan of n tables.
-pub fn put_joins(
-    out: &mut [u8],
-    at: usize,
-    n: u64,
-    set: u64,
-    sets: &[u64],
-    estimates: &[u64],
-    costs: &[u64],
-    outers: &[u64],
-    methods: &[u64],
-) -> usize
-    requires { (q : Query) × Kept q n sets.now estimates.now costs.now outers.now methods.now × ToPut q set at (length out.old) }
-    ensures { (q : Query) → Kept q n sets.now estimates.now costs.now outers.now methods.now → (t : Tree) → Picked q t → tables_of t ≡ set → Put out.old out.new at result (join_lines q t) }
+// The lines of the joins of `set`'s plan.
+pub fn put_joins(line: &mut Line, set: u64, memo: &Memo)
+    requires { (q : Query) × Kept q memo.now × ToPut q set line.old }
+    ensures { (q : Query) → Kept q memo.now → (t : Tree) → Picked q t → tables_of t ≡ set → Put line.old line.new (join_lines q t) }
 {
-    let row = row_of(sets, set);
-    match step_of(set, outers[row], methods[row]) {
-        Step::Scan(_) => at,
+    let row = row_of(memo.sets, set);
+    match step_of(set, memo.outers[row], memo.methods[row]) {
+        Step::Scan(_) => (),
         Step::Join(join) => {
-            let outer = put_joins(
-                out, at, n, join.outer, sets, estimates, costs, outers, methods,
+            put_joins(line, join.outer, memo);
+            put_joins(line, join.inner, memo);
+            put_join(
+                line,
+                memo.tables,
+                join,
+                memo.estimates[row],
+                memo.costs[row],
             );
-            let inner = put_joins(
-                out, outer, n, join.inner, sets, estimates, costs, outers, methods,
-            );
-            put_join(out, inner, n, join, estimates[row], costs[row])
         }
     }
 }

@@ -3,81 +3,68 @@ ghost use Rattle.std.specs.Prelude.{◌∷◌, [], ◌≤◌, ◌+◌, length};
 ghost use Rattle.rules.specs.Writing.{blank, digits_of, set_text, answer_line, plan_line, join_line, refusal_line};
 ghost use Rattle.digits.specs.Put.{Put};
 
-use digits::{put_byte, put_number, put_set};
-use rules::{JoinStep, Verdict};
+use digits::Line;
+use rules::JoinStep;
 
-const BLANK: u8 = 32;
-
-const NEWLINE: u8 = 10;
-
-const P: u8 = 80;
-
-const J: u8 = 74;
-
-const X: u8 = 88;
+const BLANK: u8 = b' ';
 
 // A blank and a number.
-fn put_field(out: &mut [u8], at: usize, n: u64) -> usize
-    requires { at + length (blank ∷ digits_of n) ≤ length out.old }
-    ensures { Put out.old out.new at result (blank ∷ digits_of n) }
+fn put_field(line: &mut Line, n: u64)
+    requires { line.old.at + length (blank ∷ digits_of n) ≤ length line.old.out.now }
+    ensures { Put line.old line.new (blank ∷ digits_of n) }
 {
-    let next = put_byte(out, at, BLANK);
-    put_number(out, next, n)
+    line.put_byte(BLANK);
+    line.put_number(n);
 }
 
-// A blank and a set.
-fn put_set_field(out: &mut [u8], at: usize, n: u64, set: u64) -> usize
-    requires { (at + length (blank ∷ set_text n set) ≤ length out.old) × (n ≤ 32) }
-    ensures { Put out.old out.new at result (blank ∷ set_text n set) }
+// A blank and a set: two lines like those above, of another call.
+fn put_set_field(line: &mut Line, n: u64, set: u64)
+    requires { (line.old.at + length (blank ∷ set_text n set) ≤ length line.old.out.now) × (n ≤ 32) }
+    ensures { Put line.old line.new (blank ∷ set_text n set) }
 {
-    let next = put_byte(out, at, BLANK);
-    put_set(out, next, n, set)
+    line.put_byte(BLANK);
+    line.put_set(n, set);
 }
 
 // A letter and two numbers: what P and X lines are.
-fn put_two(out: &mut [u8], at: usize, letter: u8, a: u64, b: u64) -> usize
-    requires { at + length (answer_line letter (digits_of a ∷ digits_of b ∷ [])) ≤ length out.old }
-    ensures { Put out.old out.new at result (answer_line letter (digits_of a ∷ digits_of b ∷ [])) }
+fn put_two(line: &mut Line, letter: u8, a: u64, b: u64)
+    requires { line.old.at + length (answer_line letter (digits_of a ∷ digits_of b ∷ [])) ≤ length line.old.out.now }
+    ensures { Put line.old line.new (answer_line letter (digits_of a ∷ digits_of b ∷ [])) }
 {
-    let first = put_byte(out, at, letter);
-    let second = put_field(out, first, a);
-    let third = put_field(out, second, b);
-    put_byte(out, third, NEWLINE)
+    line.put_byte(letter);
+    put_field(line, a);
+    put_field(line, b);
+    line.put_byte(b'\n');
 }
 
 // "P: best cost, pairs."
-pub fn put_plan(out: &mut [u8], at: usize, best: u64, pairs: u64) -> usize
-    requires { at + length (plan_line best pairs) ≤ length out.old }
-    ensures { Put out.old out.new at result (plan_line best pairs) }
+#[tactic(auto, unfolding(rules::specs::Writing::plan_line))]
+pub fn put_plan(line: &mut Line, best: u64, pairs: u64)
+    requires { line.old.at + length (plan_line best pairs) ≤ length line.old.out.now }
+    ensures { Put line.old line.new (plan_line best pairs) }
 {
-    put_two(out, at, P, best, pairs)
+    put_two(line, b'P', best, pairs);
 }
 
-// "A refusal is one line: `X`, number, place, with single blanks."
-pub fn put_refusal(out: &mut [u8], at: usize, verdict: Verdict) -> usize
-    requires { at + length (refusal_line verdict) ≤ length out.old }
-    ensures { Put out.old out.new at result (refusal_line verdict) }
+// "A refusal is one line: `X`, number, place, with single blanks.", of any number and place (docs/PROMISES.md), so no Refusal.
+#[tactic(auto, unfolding(rules::specs::Writing::refusal_line))]
+pub fn put_refusal(line: &mut Line, number: u64, place: u64)
+    requires { line.old.at + length (refusal_line (record { number = number; place = place })) ≤ length line.old.out.now }
+    ensures { Put line.old line.new (refusal_line (record { number = number; place = place })) }
 {
-    put_two(out, at, X, verdict.number, verdict.place)
+    put_two(line, b'X', number, place);
 }
 
 // "J: outer tables, inner tables, method, estimate, cost"
-pub fn put_join(
-    out: &mut [u8],
-    at: usize,
-    n: u64,
-    join: JoinStep,
-    estimate: u64,
-    cost: u64,
-) -> usize
-    requires { (at + length (join_line n join.outer join.inner join.method estimate cost) ≤ length out.old) × (n ≤ 32) }
-    ensures { Put out.old out.new at result (join_line n join.outer join.inner join.method estimate cost) }
+pub fn put_join(line: &mut Line, n: u64, join: JoinStep, estimate: u64, cost: u64)
+    requires { (line.old.at + length (join_line n join.outer join.inner join.method estimate cost) ≤ length line.old.out.now) × (n ≤ 32) }
+    ensures { Put line.old line.new (join_line n join.outer join.inner join.method estimate cost) }
 {
-    let letter = put_byte(out, at, J);
-    let outer = put_set_field(out, letter, n, join.outer);
-    let inner = put_set_field(out, outer, n, join.inner);
-    let method = put_field(out, inner, join.method);
-    let rows = put_field(out, method, estimate);
-    let end = put_field(out, rows, cost);
-    put_byte(out, end, NEWLINE)
+    line.put_byte(b'J');
+    put_set_field(line, n, join.outer);
+    put_set_field(line, n, join.inner);
+    put_field(line, join.method);
+    put_field(line, estimate);
+    put_field(line, cost);
+    line.put_byte(b'\n');
 }

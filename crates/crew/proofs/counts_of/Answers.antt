@@ -1,18 +1,18 @@
-use mathlib.Core.Path.{refl, ◌∙◌}
-use native.Mathlib.Omega.{arith}
-use lib.ListN.{length-set}
-use Rattle.crew.specs.LeafLaws.{counts-more, counts_all}
+use Rattle.std.proofs.Common.{rules, ◌≡◌, get_or, arith}
+use Rattle.std.proofs.lemmas.List.{ext_get_or, get_or-map, length-map}
+use Rattle.crew.specs.declared.Worker.{Worker}
+use Rattle.crew.specs.Workers.{nobody, counts_of}
 use Rattle.crew.proofs.counts_of.Goals as goal
 
-pub loop-w-init : goal.loop-w-init
-loop-w-init c = (omega arith, omega arith, refl)
-
-pub loop-w-preserved : goal.loop-w-preserved
-loop-w-preserved c =
-    let l = c.loop-w in
-    (omega arith, length-set l.counts l.w _ ∙ l.invariant.1, counts-more c.args.workers l.counts l.w c.worker_at-worker.result (omega arith) (omega arith) c.worker_at-worker.ensures l.invariant.2)
-
+-- one after another
 pub returns : goal.returns
 returns c =
-    let l = c.loop-w in
-    counts_all c.args.workers l.counts l.w (omega arith) (omega arith) l.invariant.2
+    let table = c.args.workers.now in
+    let each = c.map.ensures.items in
+    let handed = λ (v : Worker). v.handed in
+    ext_get_or 0 c.map.result (counts_of table) (omega (arith, length-map table handed)) (
+    λ w l.
+    let told = each.at w nobody 0 (omega arith) in
+    let e : get_or (counts_of table) w 0 ≡ (get_or table w nobody).handed = get_or-map handed table w nobody 0 (omega arith) in
+    search rules
+    )

@@ -1,9 +1,10 @@
-use mathlib.Core.Path.{sym, ap, ◌∙◌}
-use Rattle.rules.specs.declared.Verdict.{Verdict}
-use Rattle.rules.specs.Refusals.{Input}
-use Rattle.planner.specs.PlanLaws.{checks-are, lay-ready, laid-lengths}
+use Rattle.std.proofs.Common.{◌≡◌, refl, sym, ap, ◌∙◌}
+use Rattle.rules.specs.Verdict.{Verdict, none, told}
+use Rattle.rules.specs.Refusals.{Input, first_of, checks, checks_of, memo_lengths, log_lengths}
+use Rattle.planner.specs.PlanLaws.{checks-are, lay-ready, relaid}
 use Rattle.harness.specs.Columns.{lay_input}
 use Rattle.harness.specs.ColumnLaws.{lay-refused, lay-laid}
+use Rattle.refusals.specs.CheckLaws.{some-number}
 use Rattle.harness.proofs.lay_columns.Goals as goal
 use Rattle.harness.proofs.lay_columns.Goals.{Start}
 
@@ -11,43 +12,32 @@ use Rattle.harness.proofs.lay_columns.Goals.{Start}
 abbrev input : Start → Input
 input s = lay_input s.args.rows.now s.args.left.now s.args.right.now s.args.divisors.now s.args.sets.now s.args.estimates.now s.args.costs.now s.args.outers.now s.args.methods.now s.args.skips.now
 
-pub returns-then-verdict-ne0 : goal.returns-then-verdict-ne0
-returns-then-verdict-ne0 c =
-    let i = input (goal.at.returns-then-verdict-ne0 c).Start in
-    lay-refused i (c.check-verdict.ensures ∙ checks-are i) c.if-verdict-ne0.true
+-- past the checks: none refuses
+passed : (i : Input) → none ≡ first_of (checks_of i.query i.workers i.scheme i.turns (memo_lengths i.lent) (log_lengths i.lent)) → (first_of (checks i)).number ≡ 0
+passed i e = sym (ap (λ (x : Verdict). x.number) (e ∙ checks-are i))
 
-pub tally-counts-requires : goal.tally-counts-requires
-tally-counts-requires c =
-    let i = input (goal.at.tally-counts-requires c).Start in
-    (lay-ready i (sym (ap (λ (x : Verdict). x.number) (c.check-verdict.ensures ∙ checks-are i)) ∙ c.if-verdict-ne0.false)).0
+pub returns-in-Err : goal.returns-in-Err
+returns-in-Err c =
+    let i = input (goal.at.returns-in-Err c).Start in
+    let r = c.in-Err.refusal in
+    rw c.number.ensures (lay-refused i (c.in-Err.ensures.verdict ∙ checks-are i) (some-number r.reason))
 
-pub slice_bounds-lay_out-end : goal.slice_bounds-lay_out-end
-slice_bounds-lay_out-end c = sym c.tally-counts.ensures.long
+pub invariant_of-graph : goal.invariant_of-graph
+invariant_of-graph c = let i = input (goal.at.invariant_of-graph c).Start in (lay-ready i (passed i c.in_default.ensures.verdict)).0
 
-pub lay_out-laid-requires : goal.lay_out-laid-requires
-lay_out-laid-requires c = let i = input (goal.at.lay_out-laid-requires c).Start in
-    let r = lay-ready i (sym (ap (λ (x : Verdict). x.number) (c.check-verdict.ensures ∙ checks-are i)) ∙ c.if-verdict-ne0.false) in
-    record { good_graph = r.0; one_length = r.1; tally = c.tally-counts.ensures.counts }
+pub lay_out-requires : goal.lay_out-requires
+lay_out-requires c = let i = input (goal.at.lay_out-requires c).Start in (lay-ready i (passed i c.in_default.ensures.verdict)).1
 
-pub shape_of-sets : goal.shape_of-sets
-shape_of-sets c = (laid-lengths c.lay_out-laid.ensures).sets
+pub returns-in-Ok : goal.returns-in-Ok
+returns-in-Ok c =
+    let i = input (goal.at.returns-in-Ok c).Start in
+    let k = c.in-Ok.ensures.same in
+    let z = relaid (c.sets-1.given.1.1 (sym k.sets)) (c.estimates-1.given.1.1 (sym k.estimates)) (c.costs-1.given.1.1 (sym k.costs)) (c.outers-1.given.1.1 (sym k.outers)) (c.methods-1.given.1.1 (sym k.methods)) (c.skips-1.given.1.1 (sym k.skips)) c.in-Ok.ensures.laid in
+    lay-laid i (c.in_default.ensures.verdict ∙ checks-are i) refl z
 
-pub shape_of-estimates : goal.shape_of-estimates
-shape_of-estimates c = (laid-lengths c.lay_out-laid.ensures).estimates
-
-pub shape_of-costs : goal.shape_of-costs
-shape_of-costs c = (laid-lengths c.lay_out-laid.ensures).costs
-
-pub shape_of-outers : goal.shape_of-outers
-shape_of-outers c = (laid-lengths c.lay_out-laid.ensures).outers
-
-pub shape_of-methods : goal.shape_of-methods
-shape_of-methods c = (laid-lengths c.lay_out-laid.ensures).methods
-
-pub shape_of-skips : goal.shape_of-skips
-shape_of-skips c = (laid-lengths c.lay_out-laid.ensures).skips
-
-pub returns : goal.returns
-returns c =
-    let i = input (goal.at.returns c).Start in
-    lay-laid i (c.check-verdict.ensures ∙ checks-are i) c.if-verdict-ne0.false c.lay_out-laid.ensures
+pub returns-in-Err-lay_out : goal.returns-in-Err-lay_out
+returns-in-Err-lay_out c =
+    let i = input (goal.at.returns-in-Err-lay_out c).Start in
+    let k = c.in-Err-lay_out.ensures.same in
+    let z = relaid (c.sets-1.given.1.1 (sym k.sets)) (c.estimates-1.given.1.1 (sym k.estimates)) (c.costs-1.given.1.1 (sym k.costs)) (c.outers-1.given.1.1 (sym k.outers)) (c.methods-1.given.1.1 (sym k.methods)) (c.skips-1.given.1.1 (sym k.skips)) c.in-Err-lay_out.ensures.laid in
+    rw c.number-in-Err-lay_out.ensures (lay-laid i (c.in_default.ensures.verdict ∙ checks-are i) refl z)

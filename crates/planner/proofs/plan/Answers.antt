@@ -1,10 +1,10 @@
-use mathlib.Core.Path.{◌≡◌, refl, sym, ap, ◌∙◌}
+use Rattle.std.proofs.Common.{◌≡◌, refl, sym, ap, ◌∙◌, ◌-◌, List, ℕ, get_or}
+use Rattle.std.proofs.lemmas.Result.{err_from_is_err_and}
+use Rattle.rules.specs.Verdict.{Verdict, none}
 use Rattle.rules.specs.Refusals.{Input, first_of, checks, checks_of, memo_lengths, log_lengths}
 use Rattle.query.specs.Lists.{query_of}
-use Rattle.rules.specs.declared.Verdict.{Verdict}
 use Rattle.planner.specs.Plans.{memory_of, input_of}
-use Rattle.planner.specs.PlanLaws.{checks-are, refused-answer, lay-ready, laid-lengths, planned-checks, planned-rooms, search-ready, rows-some, rows_few, rows_fit, last-cell, last-in, crew-known, log-fits, planned-given}
-use Rattle.runs.specs.SearchLaws.{logged-lengths}
+use Rattle.planner.specs.PlanLaws.{checks-are, lay-ready, planned-checks, planned-rooms, relaid, redone, search-ready, rates-ready, log-fits, rows-some, rows_fit, last-in, planned-given}
 use Rattle.planner.proofs.plan.Goals as goal
 use Rattle.planner.proofs.plan.Goals.{Start}
 
@@ -15,136 +15,60 @@ input s =
     (memory_of s.args.sets.now s.args.estimates.now s.args.costs.now s.args.outers.now s.args.methods.now s.args.skips.now s.args.log_workers.now s.args.log_driving.now s.args.log_inner.now s.args.log_costs.now)
 
 -- past the checks: none refuses
-passed : (i : Input) {v : Verdict} → v ≡ first_of (checks_of i.query i.workers i.scheme i.turns (memo_lengths i.lent) (log_lengths i.lent)) → v.number ≡ 0 → (first_of (checks i)).number ≡ 0
-passed i e z = sym (ap (λ (x : Verdict). x.number) (e ∙ checks-are i)) ∙ z
+passed : (i : Input) → none ≡ first_of (checks_of i.query i.workers i.scheme i.turns (memo_lengths i.lent) (log_lengths i.lent)) → (first_of (checks i)).number ≡ 0
+passed i e = sym (ap (λ (x : Verdict). x.number) (e ∙ checks-are i))
 
-pub returns-then-verdict-ne0 : goal.returns-then-verdict-ne0
-returns-then-verdict-ne0 c =
-    let i = input (goal.at.returns-then-verdict-ne0 c).Start in
-    let v = c.check-verdict.ensures ∙ checks-are i in
-    planned-checks i v c.if-verdict-ne0.true (refused-answer _ _ c.refused.ensures) refl
+pub returns-in_err-crew : goal.returns-in_err-crew
+returns-in_err-crew c =
+    let i = input (goal.at.returns-in_err-crew c).Start in
+    let p = err_from_is_err_and c.from_residual.result c.from_residual.ensures.1 in
+    rw (p.1, p.2) (planned-checks i c.in_err-crew.field-0.0 (c.in_err-crew.ensures.verdict ∙ checks-are i) refl)
 
-pub tally-counts-requires : goal.tally-counts-requires
-tally-counts-requires c = (lay-ready (input (goal.at.tally-counts-requires c).Start) (passed (input (goal.at.tally-counts-requires c).Start) c.check-verdict.ensures c.if-verdict-ne0.false)).0
+pub invariant_of-graph : goal.invariant_of-graph
+invariant_of-graph c = let i = input (goal.at.invariant_of-graph c).Start in (lay-ready i (passed i c.in_ok-crew.ensures.verdict)).0
 
-pub slice_bounds-lay_out-end : goal.slice_bounds-lay_out-end
-slice_bounds-lay_out-end c = sym c.tally-counts.ensures.long
+pub lay_out-requires : goal.lay_out-requires
+lay_out-requires c = let i = input (goal.at.lay_out-requires c).Start in (lay-ready i (passed i c.in_ok-crew.ensures.verdict)).1
 
-pub lay_out-laid-requires : goal.lay_out-laid-requires
-lay_out-laid-requires c = let i = input (goal.at.lay_out-laid-requires c).Start in
-    let e = passed i c.check-verdict.ensures c.if-verdict-ne0.false in
-    let r = lay-ready i e in
-    record { good_graph = r.0; one_length = r.1; tally = c.tally-counts.ensures.counts }
+pub returns-in_err-laid : goal.returns-in_err-laid
+returns-in_err-laid c =
+    let i = input (goal.at.returns-in_err-laid c).Start in
+    let p = err_from_is_err_and c.from_residual-in_err-laid.result c.from_residual-in_err-laid.ensures.1 in
+    let k = c.in_err-laid.ensures.same in
+    let z = relaid (c.sets-1.given.1.1 (sym k.sets)) (c.estimates-1.given.1.1 (sym k.estimates)) (c.costs-1.given.1.1 (sym k.costs)) (c.outers-1.given.1.1 (sym k.outers)) (c.methods-1.given.1.1 (sym k.methods)) (c.skips-1.given.1.1 (sym k.skips)) c.in_err-laid.ensures.laid in
+    rw (p.1, p.2) (planned-rooms i c.in_err-laid.field-0.0 (passed i c.in_ok-crew.ensures.verdict) z (λ q t. memory_of (q t).sets (q t).estimates (q t).costs (q t).outers (q t).methods (q t).skips i.lent.log_workers i.lent.log_driving i.lent.log_inner i.lent.log_costs))
 
-pub shape_of-sets-then-laid-ne0 : goal.shape_of-sets-then-laid-ne0
-shape_of-sets-then-laid-ne0 c = (laid-lengths c.lay_out-laid.ensures).sets
+pub invariant_of-rates : goal.invariant_of-rates
+invariant_of-rates c = let i = input (goal.at.invariant_of-rates c).Start in record { methods = rates-ready i (passed i c.in_ok-crew.ensures.verdict) }
 
-pub shape_of-estimates-then-laid-ne0 : goal.shape_of-estimates-then-laid-ne0
-shape_of-estimates-then-laid-ne0 c = (laid-lengths c.lay_out-laid.ensures).estimates
-
-pub shape_of-costs-then-laid-ne0 : goal.shape_of-costs-then-laid-ne0
-shape_of-costs-then-laid-ne0 c = (laid-lengths c.lay_out-laid.ensures).costs
-
-pub shape_of-outers-then-laid-ne0 : goal.shape_of-outers-then-laid-ne0
-shape_of-outers-then-laid-ne0 c = (laid-lengths c.lay_out-laid.ensures).outers
-
-pub shape_of-methods-then-laid-ne0 : goal.shape_of-methods-then-laid-ne0
-shape_of-methods-then-laid-ne0 c = (laid-lengths c.lay_out-laid.ensures).methods
-
-pub shape_of-skips-then-laid-ne0 : goal.shape_of-skips-then-laid-ne0
-shape_of-skips-then-laid-ne0 c = (laid-lengths c.lay_out-laid.ensures).skips
-
-pub returns-then-laid-ne0 : goal.returns-then-laid-ne0
-returns-then-laid-ne0 c =
-    let i = input (goal.at.returns-then-laid-ne0 c).Start in
-    let e = passed i c.check-verdict.ensures c.if-verdict-ne0.false in
-    let z = c.lay_out-laid.ensures in
-    planned-rooms i e z c.if-laid-ne0.true (refused-answer _ 0 c.refused-then-laid-ne0.ensures)
-    (λ q t. memory_of (q t).sets (q t).estimates (q t).costs (q t).outers (q t).methods (q t).skips i.lent.log_workers i.lent.log_driving i.lent.log_inner i.lent.log_costs)
-
-pub known-requires : goal.known-requires
-known-requires c =
-    let i = input (goal.at.known-requires c).Start in
-    let e = passed i c.check-verdict.ensures c.if-verdict-ne0.false in
-    let z = c.lay_out-laid.ensures in
-    crew-known i e z c.if-laid-ne0.false
-
-pub slice_bounds-search-end : goal.slice_bounds-search-end
-slice_bounds-search-end c = sym c.tally-counts.ensures.long
+pub invariant_of-log : goal.invariant_of-log
+invariant_of-log c = let i = input (goal.at.invariant_of-log c).Start in record { fits = log-fits i (passed i c.in_ok-crew.ensures.verdict) }
 
 pub search-found-requires : goal.search-found-requires
-search-found-requires c = let i = input (goal.at.search-found-requires c).Start in
-    let e = passed i c.check-verdict.ensures c.if-verdict-ne0.false in
-    let z = c.lay_out-laid.ensures in
-    record { search_ready = search-ready i e z c.if-laid-ne0.false c.known.ensures; tally = c.tally-counts.ensures.counts }
+search-found-requires c =
+    let i = input (goal.at.search-found-requires c).Start in
+    let k = c.in_ok-laid.ensures.same in
+    let z = relaid (c.sets-1.given.1.1 (sym k.sets)) (c.estimates-1.given.1.1 (sym k.estimates)) (c.costs-1.given.1.1 (sym k.costs)) (c.outers-1.given.1.1 (sym k.outers)) (c.methods-1.given.1.1 (sym k.methods)) (c.skips-1.given.1.1 (sym k.skips)) c.in_ok-laid.ensures.laid in
+    search-ready i (passed i c.in_ok-crew.ensures.verdict) z c.in_ok-crew.ensures.crew
 
-pub overflow_sub-result : goal.overflow_sub-result
-overflow_sub-result c =
-    let i = input (goal.at.overflow_sub-result c).Start in
-    let e = passed i c.check-verdict.ensures c.if-verdict-ne0.false in
-    let z = c.lay_out-laid.ensures in
-    rows-some i e z c.if-laid-ne0.false
+pub overflow_sub-best : goal.overflow_sub-best
+overflow_sub-best c = let i = input (goal.at.overflow_sub-best c).Start in rows-some i (passed i c.in_ok-crew.ensures.verdict) c.in_ok-laid.ensures.laid
 
-pub offset_bounds-costs-laid : goal.offset_bounds-costs-laid
-offset_bounds-costs-laid c =
-    let i = input (goal.at.offset_bounds-costs-laid c).Start in
-    let e = passed i c.check-verdict.ensures c.if-verdict-ne0.false in
-    let z = c.lay_out-laid.ensures in
-    last-cell (rows_few i e z c.if-laid-ne0.false)
-
-pub bounds-costs-laid : goal.bounds-costs-laid
-bounds-costs-laid c =
-    let i = input (goal.at.bounds-costs-laid c).Start in
-    let e = passed i c.check-verdict.ensures c.if-verdict-ne0.false in
-    let z = c.lay_out-laid.ensures in
-    let d = c.search-found.ensures in
-    last-in (rows-some i e z c.if-laid-ne0.false) (rows_fit i e z c.if-laid-ne0.false) d.kept.costs.length-kept
-
-pub shape_of-sets : goal.shape_of-sets
-shape_of-sets c = (laid-lengths c.lay_out-laid.ensures).sets
-
-pub shape_of-estimates : goal.shape_of-estimates
-shape_of-estimates c = (laid-lengths c.lay_out-laid.ensures).estimates
-
-pub shape_of-costs : goal.shape_of-costs
-shape_of-costs c = c.search-found.ensures.kept.costs.length-kept ∙ (laid-lengths c.lay_out-laid.ensures).costs
-
-pub shape_of-outers : goal.shape_of-outers
-shape_of-outers c = c.search-found.ensures.kept.outers.length-kept ∙ (laid-lengths c.lay_out-laid.ensures).outers
-
-pub shape_of-methods : goal.shape_of-methods
-shape_of-methods c = c.search-found.ensures.kept.methods.length-kept ∙ (laid-lengths c.lay_out-laid.ensures).methods
-
-pub shape_of-skips : goal.shape_of-skips
-shape_of-skips c = (laid-lengths c.lay_out-laid.ensures).skips
-
-pub shape_of-log_workers : goal.shape_of-log_workers
-shape_of-log_workers c = (let i = input (goal.at.shape_of-log_workers c).Start in
-    let e = passed i c.check-verdict.ensures c.if-verdict-ne0.false in
-    let z = c.lay_out-laid.ensures in
-    logged-lengths c.search-found.ensures.logged (log-fits i e z c.if-laid-ne0.false)).0
-
-pub shape_of-log_driving : goal.shape_of-log_driving
-shape_of-log_driving c = (let i = input (goal.at.shape_of-log_driving c).Start in
-    let e = passed i c.check-verdict.ensures c.if-verdict-ne0.false in
-    let z = c.lay_out-laid.ensures in
-    logged-lengths c.search-found.ensures.logged (log-fits i e z c.if-laid-ne0.false)).1
-
-pub shape_of-log_inner : goal.shape_of-log_inner
-shape_of-log_inner c = (let i = input (goal.at.shape_of-log_inner c).Start in
-    let e = passed i c.check-verdict.ensures c.if-verdict-ne0.false in
-    let z = c.lay_out-laid.ensures in
-    logged-lengths c.search-found.ensures.logged (log-fits i e z c.if-laid-ne0.false)).2
-
-pub shape_of-log_costs : goal.shape_of-log_costs
-shape_of-log_costs c = (let i = input (goal.at.shape_of-log_costs c).Start in
-    let e = passed i c.check-verdict.ensures c.if-verdict-ne0.false in
-    let z = c.lay_out-laid.ensures in
-    logged-lengths c.search-found.ensures.logged (log-fits i e z c.if-laid-ne0.false)).3
+pub bounds-columns-laid : goal.bounds-columns-laid
+bounds-columns-laid c =
+    let i = input (goal.at.bounds-columns-laid c).Start in
+    let e = passed i c.in_ok-crew.ensures.verdict in
+    let k = c.in_ok-laid.ensures.same in
+    let z = relaid (c.sets-1.given.1.1 (sym k.sets)) (c.estimates-1.given.1.1 (sym k.estimates)) (c.costs-1.given.1.1 (sym k.costs)) (c.outers-1.given.1.1 (sym k.outers)) (c.methods-1.given.1.1 (sym k.methods)) (c.skips-1.given.1.1 (sym k.skips)) c.in_ok-laid.ensures.laid in
+    last-in (rows-some i e z) (rows_fit i e z) c.search-found.ensures.done.kept.costs.length-kept
 
 pub returns : goal.returns
 returns c =
     let i = input (goal.at.returns c).Start in
-    let e = passed i c.check-verdict.ensures c.if-verdict-ne0.false in
-    let z = c.lay_out-laid.ensures in
-    planned-given i e z c.if-laid-ne0.false c.known.ensures _ _ c.search-found.ensures refl refl refl refl refl refl refl refl
+    let e = passed i c.in_ok-crew.ensures.verdict in
+    let k = c.in_ok-laid.ensures.same in
+    let z = relaid (c.sets-1.given.1.1 (sym k.sets)) (c.estimates-1.given.1.1 (sym k.estimates)) (c.costs-1.given.1.1 (sym k.costs)) (c.outers-1.given.1.1 (sym k.outers)) (c.methods-1.given.1.1 (sym k.methods)) (c.skips-1.given.1.1 (sym k.skips)) c.in_ok-laid.ensures.laid in
+    let f = c.search-found.ensures.same in
+    let costs = c.costs-2-1.given.1.1 (sym f.columns.costs) in
+    let d = redone costs (c.outers-2-1.given.1.1 (sym f.columns.outers)) (c.methods-2-1.given.1.1 (sym f.columns.methods)) (c.log_workers-1.given.1.1 (sym f.log.workers)) (c.log_driving-1.given.1.1 (sym f.log.driving)) (c.log_inner-1.given.1.1 (sym f.log.inner)) (c.log_costs-1.given.1.1 (sym f.log.costs)) c.search-found.ensures.done in
+    planned-given i e z c.in_ok-crew.ensures.crew _ _ d refl refl refl (ap (λ (l : List ℕ). get_or l (c.in_ok-laid.laid.rows - 1) 0) (sym costs)) refl refl

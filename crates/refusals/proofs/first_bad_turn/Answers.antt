@@ -1,30 +1,22 @@
-use mathlib.Core.Path.{refl}
+use Rattle.std.proofs.Common.{refl, arith, length}
 use Rattle.rules.specs.Refusals.{bad_turn}
 use Rattle.refusals.specs.CheckLaws.{rest_all, rest-on, rest-here, rest-none, good_turn, bad-turn}
-use native.Mathlib.Omega.{arith}
-use lib.ListN.{length}
 use Rattle.refusals.proofs.first_bad_turn.Goals as goal
 
-pub loop-at-init : goal.loop-at-init
-loop-at-init c =
-    let a = c.args in
-    let f = bad_turn a.workers a.turns.now in
-    (omega arith, rest_all f (length a.turns.now))
+pub loop-i-init : goal.loop-i-init
+loop-i-init c = rest_all (bad_turn c.args.workers c.args.turns.now) (length c.args.turns.now)
 
-pub returns-then-turns-at : goal.returns-then-turns-at
-returns-then-turns-at c =
+pub returns-then-turn-workers : goal.returns-then-turn-workers
+returns-then-turn-workers c =
     let a = c.args in
-    let f = bad_turn a.workers a.turns.now in
-    rest-here f (length a.turns.now) c.loop-at.at c.loop-at.invariant.1 12 c.loop-at-test.true (bad-turn a.workers a.turns.now c.loop-at.at c.if-turns-at.true) (λ h. omega arith)
+    rw c.at.ensures (rest-here (bad_turn a.workers a.turns.now) (length a.turns.now) c.loop-i.i c.loop-i.invariant 12 c.loop-i-test.true (bad-turn a.workers a.turns.now c.loop-i.i c.if-turn-workers.true) (λ h. omega arith))
 
-pub loop-at-preserved : goal.loop-at-preserved
-loop-at-preserved c =
+pub loop-i-preserved : goal.loop-i-preserved
+loop-i-preserved c =
     let a = c.args in
-    let f = bad_turn a.workers a.turns.now in
-    (omega arith, rest-on f (length a.turns.now) c.loop-at.at c.loop-at.invariant.1 0 c.loop-at-test.true (good_turn a.workers a.turns.now c.loop-at.at c.if-turns-at.false) refl)
+    rest-on (bad_turn a.workers a.turns.now) (length a.turns.now) c.loop-i.i c.loop-i.invariant 0 c.loop-i-test.true (good_turn a.workers a.turns.now c.loop-i.i c.if-turn-workers.false) refl
 
 pub returns : goal.returns
 returns c =
     let a = c.args in
-    let f = bad_turn a.workers a.turns.now in
-    rest-none f (length a.turns.now) c.loop-at.at c.loop-at.invariant.1 c.loop-at-test.false
+    rest-none (bad_turn a.workers a.turns.now) (length a.turns.now) c.loop-i.i c.loop-i.invariant c.loop-i-test.false

@@ -1,18 +1,13 @@
-use Rattle.std.proofs.Common.{ap, not}
-use mathlib.Core.Path.{◌∙◌}
-use mathlib.Core.List.{[], ◌∷◌}
-use Rattle.refusals.specs.CheckLaws.{same_not, same-on, same-last}
+use Rattle.std.proofs.Common.{◌∷◌, [], ◌∙◌}
+use Rattle.refusals.specs.CheckLaws.{same-on, same_not, same-last}
 use Rattle.refusals.proofs.lent_columns_fit.Goals as goal
 
-pub returns-then-not-all_are4 : goal.returns-then-not-all_are4
-returns-then-not-all_are4 c =
-    let a = c.args in
-    let v = c.all_are4 in
-    same_not a.sets (a.estimates ∷ a.costs ∷ a.outers ∷ a.methods ∷ []) ((a.log_workers ∷ a.log_driving ∷ a.log_inner ∷ a.log_costs ∷ []) ∷ []) v.result v.ensures (ap not c.if-not-all_are4.true)
+pub returns-then-alike : goal.returns-then-alike
+returns-then-alike c =
+    let l = c.args.lent.now in
+    same-on l.memo (l.log ∷ []) c.alike.ensures c.if-alike.true (same-last l.log c.alike-then-alike.ensures)
 
-pub returns : goal.returns
-returns c =
-    let a = c.args in
-    let v = c.all_are4 in
-    let w = c.all_are3 in
-    same-last a.log_workers (a.log_driving ∷ a.log_inner ∷ a.log_costs ∷ []) w.result w.ensures ∙ same-on a.sets (a.estimates ∷ a.costs ∷ a.outers ∷ a.methods ∷ []) ((a.log_workers ∷ a.log_driving ∷ a.log_inner ∷ a.log_costs ∷ []) ∷ []) v.result v.ensures (ap not c.if-not-all_are4.false)
+pub returns-else-alike : goal.returns-else-alike
+returns-else-alike c =
+    let l = c.args.lent.now in
+    same_not l.memo (l.log ∷ []) c.alike.ensures c.if-alike.false

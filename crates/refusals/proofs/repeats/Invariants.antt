@@ -1,13 +1,7 @@
-use Prim.Native.Nat.{◌≤◌, ◌-◌}
-use mathlib.Core.Bool.{false}
-use mathlib.Core.Path.{◌≡◌}
-use lib.ListN.{get_or}
+use Rattle.std.proofs.Common.{◌≡◌, false, get_or}
 use Rattle.rules.specs.Query.{graph_of}
 use Rattle.rules.specs.Refusals.{joined_below}
 use Rattle.refusals.proofs.repeats.Given as goal
 
 abbrev pub invariant-loop-j : goal.invariant-loop-j
-invariant-loop-j l = (l.j ≤ l.i) × (joined_below (graph_of l.rows l.left l.right l.divisors) (get_or l.left l.i 0) (get_or l.right l.i 0) l.j ≡ false)
-
-abbrev pub decreases-loop-j : goal.decreases-loop-j
-decreases-loop-j l = l.i - l.j
+invariant-loop-j l = joined_below (graph_of l.rows l.left l.right l.divisors) (get_or l.left l.i 0) (get_or l.right l.i 0) l.j ≡ false

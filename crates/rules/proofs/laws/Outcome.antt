@@ -9,8 +9,6 @@ use Rattle.std.proofs.Math.Nat.{zero-add}
 use Rattle.std.specs.Int.Count.{ones, ones_in}
 use Rattle.std.proofs.Math.ListN.{length, get_or, length-take}
 use Rattle.rules.specs.declared.Crew.{Crew}
-use Rattle.rules.specs.declared.NewCrew.{NewCrew}
-use Rattle.rules.specs.declared.NewCrew.TheVariants.{Good, Refused as NoCrew}
 use Rattle.rules.specs.Kinds.{new_crew}
 use Rattle.rules.specs.Lists.{over, keep, in_row}
 use Rattle.rules.specs.Sets.{size, full, holds, number, tables_from, tables}
@@ -41,6 +39,7 @@ use Rattle.rules.specs.laws.Turns.{Entries, groups-exist}
 use Rattle.rules.proofs.laws.Schedule.{by-size}
 use Rattle.rules.proofs.laws.Final.{plan-joinable, plan-shaped}
 use Rattle.rules.specs.laws.Refusals.{accepted, crew-named}
+use Rattle.std.specs.Prelude.{None, Option, Some}
 
 -- ---- what computes
 -- what the turns hand
@@ -88,9 +87,9 @@ plan_of i crew =
 unfoldable pub refused_of : Input → Outcome
 refused_of i = record { answer = refusal (verdict i); left = i.lent }
 
-unfoldable pub plan_with : Input → NewCrew → Outcome
-plan_with i (Good crew) = plan_of i crew
-plan_with i NoCrew = refused_of i
+unfoldable pub plan_with : Input → Option Crew → Outcome
+plan_with i (Some crew) = plan_of i crew
+plan_with i None = refused_of i
 
 -- the outcome of an input
 unfoldable pub outcome : Input → Outcome
@@ -229,7 +228,7 @@ module _ (i : Input) (good : Accepted i) where
     unfolding plan_of q handed
     counted = record { refusal = refl; place = refl; best = best-least q sound (full (table_count q.graph)) good.checked.sound.connected; rows = refl; cells = refl; pairs = refl; counts = refl }
 
-    plan-given : new_crew i.workers i.scheme ≡ Good crew → Given i (plan_of i crew)
+    plan-given : new_crew i.workers i.scheme ≡ Some crew → Given i (plan_of i crew)
     unfolding q
     plan-given e = record {
       handed = handed;

@@ -2,7 +2,7 @@
 use Rattle.std.specs.Prelude.{◌≡◌, refl, List, [], ◌∷◌, ◌++◌, ℕ, ◌≤◌, ◌<◌, length, get_or}
 use Rattle.std.proofs.Common.{sym, ap, ◌∙◌, subst, le_refl, arith, eq-eqb, ne_eqb}
 use Rattle.std.proofs.Math.Decide.{dec_lt, ℕ_discrete}
-use Rattle.rules.specs.declared.Verdict.{Verdict}
+use Rattle.rules.specs.Verdict.{Verdict}
 use Rattle.rules.specs.Limits.{answer_room}
 use Rattle.rules.specs.Lists.{over}
 use Rattle.rules.specs.Sets.{size, full}

@@ -2,7 +2,7 @@
 use Rattle.std.specs.Prelude.{◌≡◌, refl, Bool, true, false, cond, List, [], ◌∷◌, ◌++◌, map, ℕ, zero, suc, ◌+◌, ◌-◌, ◌*◌, ◌/◌, ◌%◌, ◌^◌, ◌≤◌, ◌<◌, eqb, ltb, length}
 use Rattle.std.proofs.Common.{ap, pow-suc, arith, length-append, lt-ltb, le-ltb}
 use Rattle.std.proofs.Math.Decide.{dec_lt}
-use Rattle.rules.specs.declared.Verdict.{Verdict}
+use Rattle.rules.specs.Verdict.{Verdict}
 use Rattle.rules.specs.Limits.{max_tables, cost_bound}
 use Rattle.rules.specs.Sets.{size, tables_from, tables}
 use Rattle.rules.specs.Query.{Query, table_count}

@@ -6,13 +6,9 @@ use Rattle.std.proofs.Math.Decide.{ℕ_discrete}
 use Rattle.std.proofs.Math.Numerals.{add-one}
 use native.Mathlib.Omega.{arith}
 use borrow.Author.Tests.{eqb-true, eqb-false, eq-eqb, ne_eqb, ltb-true, ltb-false, lt-ltb, le-ltb, leb-true, le-leb, not-false}
-use Rattle.rules.specs.declared.Verdict.{Verdict}
+use Rattle.rules.specs.Verdict.{Verdict, none}
 use Rattle.rules.specs.declared.Edge.{Edge}
-use Rattle.rules.specs.declared.NewEdge.TheVariants.{Good as GoodEdge, Outside, Itself, Divisor}
 use Rattle.rules.specs.declared.Scheme.{Scheme}
-use Rattle.rules.specs.declared.NewScheme.{NewScheme}
-use Rattle.rules.specs.declared.NewScheme.TheVariants.{Good as GoodScheme, Unknown}
-use Rattle.rules.specs.declared.NewCrew.TheVariants.{Good as GoodCrew, Refused}
 use Rattle.rules.specs.Limits.{max_tables, max_methods, max_workers, max_divisor, max_rows, max_scan, max_fixed, max_coefficient, in_range, tables_fit, methods_fit, table_fits, method_fits}
 use Rattle.rules.specs.Kinds.{new_edge, edge_number, scheme_of, crew_with, new_crew}
 use Rattle.rules.specs.Lists.{is_yes}
@@ -22,10 +18,12 @@ use Rattle.rules.specs.Connected.{Connected}
 use Rattle.rules.specs.Estimate.{joins_at}
 use Rattle.rules.specs.Rows.{memo}
 use Rattle.rules.specs.Skips.{skips}
-use Rattle.rules.specs.Refusals.{Memory, Input, refuse, first_bad, first_of, none, all_are, all_same, memo_lengths, log_lengths, groups, bad_table, bad_method, joined_below, repeats, edge_or, bad_edge, is_refused, bad_turn, checks_of, checks, rooms, verdict}
+use Rattle.rules.specs.Refusals.{Memory, Input, refuse, first_bad, first_of, all_are, all_same, memo_lengths, log_lengths, groups, bad_table, bad_method, joined_below, repeats, edge_or, bad_edge, is_refused, bad_turn, checks_of, checks, rooms, verdict}
 use Rattle.rules.specs.Checked.{MethodGood, EdgeGood, GoodGraph, Sound, Columns, CrewGood, Accepted, Checked}
 use Rattle.rules.specs.laws.Bools.{true-or-false, not-both, and-true, and-true-l, and_true_r, or_cases, or-true-l, or_true_r, yes_true, true-yes}
 use Rattle.rules.specs.laws.Decide.{connected?}
+use Rattle.std.specs.Prelude.{Err, None, Ok, Option, Some}
+use Rattle.rules.specs.declared.EdgeFault.TheVariants.{Divisor, Itself, Outside}
 
 -- ---- the shapes of a check
 -- no verdict of the list is a refusal
@@ -256,7 +254,7 @@ unfolding joined_below
 false_below g a b zero h = refl
 false_below g a b (suc n) h = ⊎_elim (λ e. absurd (h n (omega arith) (joins_true g a b n e))) (λ e. rw (false_below g a b n (λ j l. h j (omega arith)), e)) (true-or-false (joins_at g a b n))
 
-edge-tests : (e : Edge) (a b c : Bool) → edge_number (cond (not a) Outside (cond b Itself (cond (not c) Divisor (GoodEdge e)))) ≡ 0 → (a ≡ true) × (b ≡ false) × (c ≡ true)
+edge-tests : (e : Edge) (a b c : Bool) → edge_number (cond (not a) (Err Outside) (cond b (Err Itself) (cond (not c) (Err Divisor) (Ok e)))) ≡ 0 → (a ≡ true) × (b ≡ false) × (c ≡ true)
 edge-tests e false b c h = absurd (omega arith)
 edge-tests e true true c h = absurd (omega arith)
 edge-tests e true false false h = absurd (omega arith)
@@ -315,23 +313,23 @@ true-edge g i good =
     )
 
 -- ---- workers, scheme and turns
-known-scheme : (n : ℕ) (s : NewScheme) → is_refused (crew_with n s) ≡ false → (k : Scheme) × (s ≡ GoodScheme k)
+known-scheme : (n : ℕ) (s : Option Scheme) → is_refused (crew_with n s) ≡ false → (k : Scheme) × (s ≡ Some k)
 unfolding is_refused
-known-scheme n (GoodScheme k) e = (k, refl)
-known-scheme n Unknown e = absurd (not-both true refl e)
+known-scheme n (Some k) e = (k, refl)
+known-scheme n None e = absurd (not-both true refl e)
 
 crew-true : (workers scheme : ℕ) → is_refused (new_crew workers scheme) ≡ false → CrewGood workers scheme
 unfolding is_refused
 crew-true workers scheme e = go (true-or-false (in_range 1 max_workers workers)) e
   where
-    go : (in_range 1 max_workers workers ≡ true) ⊎ (in_range 1 max_workers workers ≡ false) → is_refused (cond (in_range 1 max_workers workers) (crew_with workers (scheme_of scheme)) Refused) ≡ false → CrewGood workers scheme
+    go : (in_range 1 max_workers workers ≡ true) ⊎ (in_range 1 max_workers workers ≡ false) → is_refused (cond (in_range 1 max_workers workers) (crew_with workers (scheme_of scheme)) None) ≡ false → CrewGood workers scheme
     go (inl t) h =
         let k = known-scheme workers (scheme_of scheme) (rw t at h) in
         record { some-worker = (range 1 max_workers workers t).0; few-workers = (range 1 max_workers workers t).1; named = k.0; is-named = k.1 }
     go (inr t) h = absurd (not-both true refl (rw t at h))
 
 -- its crew
-pub crew-named : {workers scheme : ℕ} (g : CrewGood workers scheme) → new_crew workers scheme ≡ GoodCrew (record { workers = workers; scheme = g.named })
+pub crew-named : {workers scheme : ℕ} (g : CrewGood workers scheme) → new_crew workers scheme ≡ Some (record { workers = workers; scheme = g.named })
 crew-named {workers} {scheme} g = rw (of_range 1 max_workers workers g.some-worker g.few-workers, g.is-named)
 
 true-crew : (workers scheme : ℕ) → CrewGood workers scheme → is_refused (new_crew workers scheme) ≡ false

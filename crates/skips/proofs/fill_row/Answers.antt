@@ -1,27 +1,16 @@
-use mathlib.Core.Path.{◌≡◌, refl, sym, ap, ◌∙◌}
+use mathlib.Core.Path.{◌≡◌, ap, ◌∙◌}
 use Prim.Native.Nat.{ℕ, ◌+◌, ◌-◌}
 use native.Mathlib.Omega.{arith}
 use lib.ListN.{length-set}
 use Rattle.rules.specs.Sets.{single, size}
 use Rattle.rules.specs.laws.Sets.{holds-lt}
-use Rattle.skips.specs.VectorLaws.{lowest-le, lowest-less, lowest-size, still_kept, row_more, row_done}
+use Rattle.skips.specs.VectorLaws.{lowest-le, lowest-size, still_kept, row_more, row_done}
 use Rattle.skips.proofs.fill_row.Goals as goal
-
-pub loop-left-init : goal.loop-left-init
-loop-left-init c =
-    let e : c.args.at + c.size.result ≡ c.args.at + size c.args.set = omega arith in
-    (omega arith, sym e, refl, λ j h. refl, rw e)
-
-pub lowest_table-t-requires : goal.lowest_table-t-requires
-lowest_table-t-requires c = (omega arith, omega arith)
 
 pub next_cell-requires : goal.next_cell-requires
 next_cell-requires c =
     let r = holds-lt 32 c.loop-left.left _ c.loop-left.invariant.0 c.lowest_table-t.ensures.stands in
     (r.0, r.1, omega (arith, c.size.ensures, c.loop-left.invariant.2))
-
-pub offset_bounds-out-i : goal.offset_bounds-out-i
-offset_bounds-out-i c = omega (arith, lowest-size _ _ c.lowest_table-t.ensures)
 
 pub bounds-out-i : goal.bounds-out-i
 bounds-out-i c = omega (arith, lowest-size _ _ c.lowest_table-t.ensures, c.size.ensures)
@@ -33,12 +22,6 @@ single-left-requires c =
 
 pub overflow_sub-left : goal.overflow_sub-left
 overflow_sub-left c = omega (arith, c.single-left.ensures, lowest-le _ _ c.lowest_table-t.ensures)
-
-pub overflow_add-i : goal.overflow_add-i
-overflow_add-i c = omega (arith, lowest-size _ _ c.lowest_table-t.ensures)
-
-pub loop-left-smaller : goal.loop-left-smaller
-loop-left-smaller c = omega (arith, c.single-left.ensures, lowest-less _ _ c.lowest_table-t.ensures)
 
 pub loop-left-preserved : goal.loop-left-preserved
 loop-left-preserved c =
@@ -53,9 +36,6 @@ loop-left-preserved c =
       still_kept b c.loop-left.i c.loop-left.out a.out.now c.loop-left.invariant.3 c.next_cell.result (omega (arith, z, c.loop-left.invariant.1)),
       row_more b c.loop-left.i c.loop-left.out a.out.now c.loop-left.invariant.3 a.next a.number c.loop-left.left t.result c.loop-left.invariant.0 t.ensures c.single-left.ensures c.next_cell.ensures ∙ c.loop-left.invariant.4,
     )
-
-pub shape_of-out : goal.shape_of-out
-shape_of-out c = c.loop-left.invariant.2
 
 pub returns : goal.returns
 returns c = row_done _ _ _ c.loop-left.left (omega arith) c.loop-left.invariant.4

@@ -1,7 +1,7 @@
 use mathlib.Core.Path.{refl, sym}
 use Prim.Native.Nat.{◌-◌}
 use native.Mathlib.Omega.{arith}
-use Rattle.skips.specs.VectorLaws.{times-le, behind-some, behind-last, vectors-none, row_fits, vectors-more, vectors-done}
+use Rattle.skips.specs.VectorLaws.{behind-some, behind-last, vectors-none, vectors-more}
 use Rattle.skips.proofs.fill_vectors.Goals as goal
 
 pub loop-i-init : goal.loop-i-init
@@ -13,31 +13,8 @@ loop-i-init c =
       vectors-none a.sets.now a.from a.to a.k c.requires.0 a.out.now a.at,
     )
 
-pub overflow_mul-i : goal.overflow_mul-i
-overflow_mul-i c =
-    let a = c.args in
-    omega (arith, times-le (c.loop-i.i - 1) (a.to - a.from) a.k (omega arith))
-
-pub overflow_add-at : goal.overflow_add-at
-overflow_add-at c =
-    let a = c.args in
-    omega (arith, times-le (c.loop-i.i - 1) (a.to - a.from) a.k (omega arith))
-
-pub fill_row-requires : goal.fill_row-requires
-fill_row-requires c =
-    let a = c.args in
-    row_fits a.sets.now a.from a.to a.k c.requires.0 a.at c.loop-i.i (c.loop-i.i - 1) (omega arith) c.loop-i.invariant.0 c.loop-i.invariant.1 refl (omega (arith, c.requires.1, c.loop-i.invariant.2))
-
 pub loop-i-preserved : goal.loop-i-preserved
 loop-i-preserved c =
     let a = c.args in
     let r = vectors-more a.sets.now a.from a.to a.k c.requires.0 a.at c.loop-i.i (c.loop-i.i - 1) (omega arith) c.loop-i.invariant.0 a.out.now c.loop-i.invariant.1 refl c.requires.1 c.loop-i.invariant.3 c.fill_row.ensures in
     (omega arith, sym (behind-some a.sets.now a.from a.to a.k c.requires.0 (c.loop-i.i - 1) (omega arith)), r.0, r.1)
-
-pub shape_of-out : goal.shape_of-out
-shape_of-out c = c.loop-i.invariant.2
-
-pub returns : goal.returns
-returns c =
-    let a = c.args in
-    vectors-done a.sets.now a.from a.to a.k c.requires.0 a.out.now a.at c.loop-i.i (omega arith) c.loop-i.invariant.3

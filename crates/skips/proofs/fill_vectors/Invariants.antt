@@ -10,6 +10,3 @@ abbrev pub invariant-loop-i : goal.invariant-loop-i
 invariant-loop-i l =
     (l.i ≤ l.to - l.from) × (l.next ≡ get_or (slice (l.from + l.i) l.to l.sets) 0 0) × (length l.out ≡ length l.initial.out)
     × (l.out ≡ written l.initial.out (l.at + l.i * l.k) (vectors_from 32 (l.i + 1) (slice (l.from + l.i) l.to l.sets)))
-
-abbrev pub decreases-loop-i : goal.decreases-loop-i
-decreases-loop-i l = l.i

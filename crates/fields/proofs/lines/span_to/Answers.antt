@@ -1,15 +1,12 @@
-use Rattle.fields.specs.SpanLaws.{passed-0, passed-suc, passed-found, passed-end}
-use borrow.Author.Rules.{rules}
+use Rattle.std.proofs.Common.{rules, tests}
+use Rattle.std.specs.Prelude.{eqb}
+use Rattle.std.proofs.lemmas.Iterator.{YieldsList-from_slice}
+use Rattle.std.proofs.lemmas.Iterator.Search.{position_from_yields_List}
+use Rattle.fields.specs.SpanLaws.{span-found}
 use Rattle.fields.proofs.lines.span_to.Goals as goal
 
-pub loop-i-init : goal.loop-i-init
-loop-i-init c = (search rules, passed-0 _ _)
-
-pub returns-then-bytes-i : goal.returns-then-bytes-i
-returns-then-bytes-i c = (passed-found _ _ _ c.loop-i-test.true c.loop-i.invariant.1 c.if-bytes-i.true, search rules)
-
-pub loop-i-preserved : goal.loop-i-preserved
-loop-i-preserved c = (search rules, passed-suc _ _ _ c.loop-i-test.true c.loop-i.invariant.1 c.if-bytes-i.false)
-
 pub returns : goal.returns
-returns c = (passed-end _ _ _ c.loop-i-test.false c.loop-i.invariant.1, search rules)
+returns c =
+    rw c.unwrap_or.ensures
+    (span-found c.args.by c.args.bytes.now c.position.result
+    (position_from_yields_List (λ b. eqb b c.args.by) _ _ c.position.result c.position.ensures.ran (YieldsList-from_slice c.args.bytes.now c.iter.ensures.rest) (λ x b q k. search (rules, tests))))

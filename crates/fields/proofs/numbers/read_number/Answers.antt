@@ -1,21 +1,19 @@
-use mathlib.Core.Path.{sym, ◌∙◌}
-use Rattle.fields.specs.NumberLaws.{number-empty, number-long, number-led, number-bad, number-good, number-over}
+use Rattle.std.proofs.Common.{rules, tests, sym, ◌∙◌, cond, Some, None, MatchOption, ◌≡◌, leb}
+use Rattle.rules.specs.Limits.{max_number}
+use Rattle.fields.specs.NumberLaws.{number-empty, number-long, number-led, number-kept}
 use Rattle.fields.proofs.numbers.read_number.Goals as goal
+use Rattle.fields.proofs.numbers.read_number.Goals.{then-is_empty-via-then-is_empty, then-is_empty-via-else-is_empty+then-s-gt-MAX_DIGITS, then-is_empty-via-else-is_empty+else-s-gt-MAX_DIGITS+then-zero_led}
 
-pub returns-then-s-eq0 : goal.returns-then-s-eq0
-returns-then-s-eq0 c = number-empty c.args.s.now c.if-s-eq0.true
+pub returns-then-is_empty : goal.returns-then-is_empty
+returns-then-is_empty c =
+    let e = sym c.is_empty.ensures in
+    elim c.then-is_empty.branch [
+      | then-is_empty-via-then-is_empty w ↦ number-empty _ (e ∙ w.if-is_empty.true)
+      | then-is_empty-via-else-is_empty+then-s-gt-MAX_DIGITS w ↦ number-long _ (e ∙ w.if-is_empty.false) w.if-s-gt-MAX_DIGITS.true
+      | then-is_empty-via-else-is_empty+else-s-gt-MAX_DIGITS+then-zero_led w ↦ number-led _ (e ∙ w.if-is_empty.false) w.if-s-gt-MAX_DIGITS.false (sym w.zero_led.ensures ∙ w.if-zero_led.true)
+    ]
 
-pub returns-then-s-gt-MAX_DIGITS : goal.returns-then-s-gt-MAX_DIGITS
-returns-then-s-gt-MAX_DIGITS c = number-long c.args.s.now c.if-s-eq0.false c.if-s-gt-MAX_DIGITS.true
-
-pub returns-then-zero_led : goal.returns-then-zero_led
-returns-then-zero_led c = number-led c.args.s.now c.if-s-eq0.false c.if-s-gt-MAX_DIGITS.false (sym c.zero_led.ensures ∙ c.if-zero_led.true)
-
-pub returns-then-value-le-MAX : goal.returns-then-value-le-MAX
-returns-then-value-le-MAX c = number-good c.args.s.now c.if-s-eq0.false c.if-s-gt-MAX_DIGITS.false (sym c.zero_led.ensures ∙ c.if-zero_led.false) _ c.digits.ensures _ c.in-Value.is c.if-value-le-MAX.true
-
-pub returns-else-value-le-MAX : goal.returns-else-value-le-MAX
-returns-else-value-le-MAX c = number-over c.args.s.now c.if-s-eq0.false c.if-s-gt-MAX_DIGITS.false (sym c.zero_led.ensures ∙ c.if-zero_led.false) _ c.digits.ensures _ c.in-Value.is c.if-value-le-MAX.false
-
-pub returns-in-Bad : goal.returns-in-Bad
-returns-in-Bad c = number-bad c.args.s.now c.if-s-eq0.false c.if-s-gt-MAX_DIGITS.false (sym c.zero_led.ensures ∙ c.if-zero_led.false) _ c.digits.ensures c.in-Bad.is
+pub returns : goal.returns
+returns c =
+    let m : MatchOption c.digits.result (c.filter.result ≡ None) (λ v. c.filter.result ≡ cond (leb v max_number) (Some v) None) = search (rules, tests) in
+    number-kept _ (sym c.is_empty.ensures ∙ c.if-is_empty.false) c.if-s-gt-MAX_DIGITS.false (sym c.zero_led.ensures ∙ c.if-zero_led.false) c.digits.result _ c.digits.ensures m

@@ -5,11 +5,9 @@ use Rattle.pairs.proofs.find.along.Goals as goal
 pub loop-inner-init : goal.loop-inner-init
 loop-inner-init c = walked_none _ _ _ _
 
-pub joinable-requires : goal.joinable-requires
-joinable-requires c = c.requires.good_graph
-
 pub onward-inner-requires : goal.onward-inner-requires
-onward-inner-requires c = let z = c.requires.span_cells in
+onward-inner-requires c =
+    let z = c.requires in
     record { row_cells = z.rows _ c.loop-inner.invariant.from c.loop-inner-test.true; stride = (z.some-step, z.few-step) }
 
 pub loop-inner-smaller : goal.loop-inner-smaller

@@ -16,11 +16,11 @@ rank_of-rank-requires c =
 pub overflow_add-next-2 : goal.overflow_add-next-2
 overflow_add-next-2 c = omega (arith, cell-inside c.requires.row_cells _ (c.requires.shared.1 _ c.lowest_table-t.ensures.stands) c.rank_of-rank.ensures)
 
-pub offset_bounds-skips-cell : goal.offset_bounds-skips-cell
-offset_bounds-skips-cell c = omega (arith, cell-inside c.requires.row_cells _ (c.requires.shared.1 _ c.lowest_table-t.ensures.stands) c.rank_of-rank.ensures)
+pub offset_bounds-rows-rows : goal.offset_bounds-rows-rows
+offset_bounds-rows-rows c = omega (arith, cell-inside c.requires.row_cells _ (c.requires.shared.1 _ c.lowest_table-t.ensures.stands) c.rank_of-rank.ensures)
 
-pub bounds-skips-cell : goal.bounds-skips-cell
-bounds-skips-cell c =
+pub bounds-rows-rows : goal.bounds-rows-rows
+bounds-rows-rows c =
     cell-inside c.requires.row_cells _ (c.requires.shared.1 _ c.lowest_table-t.ensures.stands) c.rank_of-rank.ensures
 
 pub overflow_add-result : goal.overflow_add-result

@@ -5,7 +5,7 @@ use Rattle.pairs.proofs.find.onward.Goals as goal
 pub returns-then-both-eq0 : goal.returns-then-both-eq0
 returns-then-both-eq0 c =
     let a = c.args in
-    onward-next a.sets.now a.x a.inner a.step c.requires.stride.0 c.requires.row_cells.early
+    onward-next a.rows.now.sets.now a.x a.inner a.step c.requires.stride.0 c.requires.row_cells.early
 
 pub hop-requires : goal.hop-requires
 hop-requires c = record { row_cells = c.requires.row_cells; shared = overlap-held c.args.x _ c.if-both-eq0.false }

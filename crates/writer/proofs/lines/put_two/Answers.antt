@@ -4,22 +4,22 @@ use Rattle.digits.specs.PutLaws.{put_then, put_as, room-first, room-then, room_o
 use Rattle.writer.specs.LineLaws.{two-line}
 use Rattle.writer.proofs.lines.put_two.Goals as goal
 
-pub put_byte-first-requires : goal.put_byte-first-requires
-put_byte-first-requires c =
-    room-first (_ ∷ []) _ (room_of (two-line _ _ _) c.requires)
-
-pub put_field-second-requires : goal.put_field-second-requires
-put_field-second-requires c =
-    room-first (blank ∷ digits_of _) _ (room-then _ c.put_byte-first.ensures (room_of (two-line _ _ _) c.requires))
-
-pub put_field-third-requires : goal.put_field-third-requires
-put_field-third-requires c =
-    room-first (blank ∷ digits_of _) _ (room-then _ c.put_field-second.ensures (room-then _ c.put_byte-first.ensures (room_of (two-line _ _ _) c.requires)))
-
 pub put_byte-requires : goal.put_byte-requires
 put_byte-requires c =
-    (room-then _ c.put_field-third.ensures (room-then _ c.put_field-second.ensures (room-then _ c.put_byte-first.ensures (room_of (two-line _ _ _) c.requires)))).left
+    room-first (_ ∷ []) _ (room_of c.args.line.now (two-line _ _ _) c.requires)
+
+pub put_field-requires : goal.put_field-requires
+put_field-requires c =
+    room-first (blank ∷ digits_of _) _ (room-then _ c.put_byte.ensures (room_of c.args.line.now (two-line _ _ _) c.requires))
+
+pub put_field-requires-2 : goal.put_field-requires-2
+put_field-requires-2 c =
+    room-first (blank ∷ digits_of _) _ (room-then _ c.put_field.ensures (room-then _ c.put_byte.ensures (room_of c.args.line.now (two-line _ _ _) c.requires)))
+
+pub put_byte-requires-2 : goal.put_byte-requires-2
+put_byte-requires-2 c =
+    (room-then _ c.put_field-2.ensures (room-then _ c.put_field.ensures (room-then _ c.put_byte.ensures (room_of c.args.line.now (two-line _ _ _) c.requires)))).left
 
 pub returns : goal.returns
 returns c =
-    put_as (two-line _ _ _) (put_then c.put_byte-first.ensures (put_then c.put_field-second.ensures (put_then c.put_field-third.ensures c.put_byte.ensures)))
+    put_as (two-line _ _ _) (put_then c.put_byte.ensures (put_then c.put_field.ensures (put_then c.put_field-2.ensures c.put_byte-2.ensures)))

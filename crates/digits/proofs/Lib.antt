@@ -1,0 +1,2 @@
+-- Laws that stand on this crate's definitions.
+pub mod Laws

@@ -1,4 +1,0 @@
-use Rattle.trial.proofs.enumerate.+cheapest.Given as goal
-
-abbrev pub decreases-cheapest : goal.decreases-cheapest
-decreases-cheapest l = l.fuel

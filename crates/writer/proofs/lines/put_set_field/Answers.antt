@@ -1,5 +1,0 @@
-use Rattle.digits.specs.PutLaws.{put_then}
-use Rattle.writer.proofs.lines.put_set_field.Goals as goal
-
-pub returns : goal.returns
-returns c = put_then c.put_byte-next.ensures c.put_set.ensures
