@@ -97,6 +97,7 @@ impl Memory {
     // The filled rows as document 01 orders their fields, each with its skip vector, which has a cell for each table of the set; then the
     // spare rows, which planning leaves as they were, as plain numbers.
     pub fn print_rows(&self, rt: &impl Print, filled: usize) -> io::Result<()> {
+        // By index: a column may be lent too short, and then has marks there.
         let mut skips = self.skips.as_slice();
         for i in 0..self.sets.len() {
             let row = self.row(i);
@@ -132,6 +133,7 @@ impl Memory {
 
     // The log's entries, and then the spare ones, as plain numbers.
     pub fn print_log(&self, rt: &impl Print, logged: usize) -> io::Result<()> {
+        // By index, as above.
         for i in 0..self.log_workers.len() {
             let entry = self.entry(i);
             if i < logged {

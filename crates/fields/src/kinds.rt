@@ -19,6 +19,7 @@ pub struct Progress {
     pub edges: usize,
     // A number and no Option<Kind>: `judge` answers for any number (docs/PROMISES.md).
     pub latest: u64,
+    // Any numbers: it is check 11 that refuses a crew. 0 before the crew's line, as 01's reading has them.
     pub workers: u64,
     pub scheme: u64,
 }

@@ -13,6 +13,7 @@ use query::graph::Graph;
 use sets::{lowest_table, overlap, single};
 
 // The other table of an edge of the tables `a` and `b`, as a set, where one of them is `t`.
+// Tables are plain numbers with their range, as in sets: a type of its own would be taken apart for each bit.
 fn far_table(a: u64, b: u64, t: u64) -> u64
     requires { (1 ≤ a) × (a ≤ max_tables) × (1 ≤ b) × (b ≤ max_tables) }
     ensures { result ≡ far_of a b t }

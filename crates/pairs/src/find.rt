@@ -14,6 +14,7 @@ use sets::{lowest_table, rank_of};
 use shares::places::{Place, Spot, nowhere};
 use shares::{Share, Span, span_of, span_on};
 
+// Made in two places: a function would promise each of its five fields.
 // The rows of one inner size, `wide`, in the memo: `base` is the first of them and `cell` its first skip cell.
 #[derive(Clone, Copy)]
 pub struct InnerRows<'a> {

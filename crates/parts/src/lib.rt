@@ -13,6 +13,7 @@ use sets::{lowest_table, single};
 const MAX_ESTIMATE: u64 = 1_000_000_000_000;
 
 // The cell of the tables `t` and `u`.
+// Two tables' place in one list: theorems name it so.
 fn cell(t: u64, u: u64) -> usize
     requires { (1 ≤ t) × (t ≤ max_tables) × (1 ≤ u) × (u ≤ max_tables) }
     ensures { result ≡ cell_of t u }
@@ -21,6 +22,7 @@ fn cell(t: u64, u: u64) -> usize
 }
 
 // The rows of each table, where 0 counts as 1.
+// An array: the library has no heap.
 fn own_parts(rows: &[u64]) -> [u64; 256]
     requires { length rows.now ≤ max_tables }
     ensures { Own rows.now (length rows.now) result }

@@ -45,6 +45,7 @@ pub fn edge_between(graph: &Graph, x: u64, y: u64) -> bool
     ensures { result ≡ is_yes (between? graph.now x y) }
 {
     let either = x | y;
+    // By index, as in every loop over edges: a chain would zip lists that only the invariant holds to one length.
     for i in 0..graph.left.len() {
         if has_table(either, graph.left[i]) && crosses(x, y, graph.left[i], graph.right[i]) {
             return true;

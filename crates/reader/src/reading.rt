@@ -94,6 +94,7 @@ pub fn read(text: &[u8], columns: &mut Columns) -> Result<Progress, Stopped>
             progress,
         })?;
         rest = &rest[end + 1..];
+        // The line is counted beside the text: it is told where reading stops.
         place += 1;
         progress = columns.store(entry, progress);
     }

@@ -39,6 +39,7 @@ fn first_bad<F: Fn(usize) -> Result<(), Reason>>(count: usize, test: F) -> Resul
 }
 
 // Refusal 3 of one table.
+// `if let`, here and below, and no `ok_or(..)?`: no plainer where nothing else is asked of the value.
 fn check_table(rows: u64, scan: u64) -> Result<(), Reason>
     ensures { number_in result ≡ table_number (new_table rows scan) }
 {
@@ -87,6 +88,7 @@ pub fn repeats(rows: &[u64], left: &[u64], right: &[u64], divisors: &[u64], i: u
     requires { (length right.now ≡ length left.now) × (i < length left.now) }
     ensures { result ≡ repeats (graph_of rows.now left.now right.now divisors.now) i }
 {
+    // By index: no type holds the lists to one length, and a chain would zip them.
     for j in 0..i {
         if same_pair(left[j], right[j], left[i], right[i]) {
             return true;
@@ -222,6 +224,7 @@ fn check_graph(query: &Query) -> Result<(), Refusal>
     ensures { verdict_of result ≡ first_of (graph_checks (query_in query.now).graph) }
 {
     first_bad_edge(query.rows, query.left, query.right, query.divisors)?;
+    // Made where it is known to be good: a function for it would ask for just that.
     let graph = Graph {
         rows: query.rows,
         left: query.left,
@@ -236,6 +239,7 @@ fn check_graph(query: &Query) -> Result<(), Refusal>
 }
 
 // Refusals 11 and 12; the crew that the numbers name.
+// Crew and turns are no struct, here and in runs: one is a value, the other a lent list.
 fn check_crew(workers: u64, scheme: u64, turns: &[u64]) -> Result<Crew, Refusal>
     ensures verdict { verdict_of result ≡ first_of (crew_checks workers scheme turns.now) }
     ensures crew { IfOk result (λ c. new_crew workers scheme ≡ Some c) }

@@ -35,6 +35,7 @@ impl Tally<'_> {
     pub fn cells(&self) -> usize
         ensures { result ≡ length (skips self.now.graph.now) }
     {
+        // No chain: each count is taken as often as its size.
         let graph = self.graph;
         let mut sum = 0usize;
         for k in 0..graph.rows.len() {

@@ -185,6 +185,7 @@ pub struct Crew {
 impl Crew {
     pub const MAX_WORKERS: u64 = 8;
 
+    // The fields stay public, so that a range is asked for where one is needed: theorems name a crew of any numbers.
     // None where either is out of its range.
     pub fn new(workers: u64, scheme: u64) -> Option<Crew>
         ensures { result ≡ new_crew workers scheme }

@@ -28,6 +28,7 @@ pub struct Searched {
 }
 
 // Room for where the rows of each size begin: sizes 0 to N + 1, of at most 16 tables.
+// Not shared with rounds: each is room for one table of its own.
 const SIZES: usize = 18;
 
 // Fills the memo, whose rows `tally` tells, by turns, group after group, and notes them in the log.

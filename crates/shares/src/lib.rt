@@ -96,6 +96,7 @@ pub fn span_of(
 {
     let workers = share.workers;
     let worker = share.worker;
+    // No closure for each way of sharing: they are an enum's four.
     match share.scheme {
         Scheme::CutCandidates => clip(share.from, share.to, ahead, first, end),
         Scheme::CutRows => all_or_none(in_cut(rows, workers, worker, row), first, end),

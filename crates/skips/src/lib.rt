@@ -28,6 +28,7 @@ fn fill_row(set: u64, next: u64, number: u64, out: &mut [u64], at: usize)
 {
     let behind = at + size(set) as usize;
     let mut left = set;
+    // The cell is counted beside the tables: it is theirs in this order.
     let mut i = at;
     // No `for`: the tables are bits of a number, and are taken off it one after another.
     while left != 0 {

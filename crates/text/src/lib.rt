@@ -21,6 +21,7 @@ use sets::single;
 use writer::joins::{Memo, put_joins};
 use writer::lines::{put_plan, put_refusal};
 
+// That a line has room stands in a clause, here and in digits and writer: what it is room for differs.
 // The X line of a refusal.
 fn put_refused(line: &mut Line, refusal: Refusal)
     requires { line.old.at + answer_room ≤ length line.old.out.now }
@@ -146,6 +147,7 @@ pub fn plan_bytes(query: &[u8], answer: &mut [u8]) -> usize
     ensures { Written query.now answer.old answer.new result }
 {
     let room = answer.len();
+    // No Vec: the library has no heap.
     let mut lines = [0u8; 4096];
     let mut line = Line {
         out: &mut lines,

@@ -26,6 +26,7 @@ enum Kind {
     Limit,
 }
 
+// No TryFrom, here and below: any number that is drawn names one.
 impl Kind {
     fn numbered(n: u64) -> Kind {
         match n {

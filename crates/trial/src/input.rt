@@ -105,6 +105,7 @@ pub enum Scheme {
     DealInner,
 }
 
+// No TryFrom: any number that is drawn names one.
 impl Scheme {
     pub fn numbered(n: u64) -> Scheme {
         match n % 4 {
