@@ -1,8 +1,33 @@
 // An input, and the lines that say it.
-use std::alloc::{AllocError, Global};
 
 // So many numbers a list may hold.
 const MOST: usize = 31;
+
+// The numbers of a list. No Vec: this program takes no memory that may be refused.
+#[derive(Clone, Copy)]
+pub struct List {
+    cells: [u64; MOST],
+    count: usize,
+}
+
+impl List {
+    fn new() -> List {
+        List {
+            cells: [0; MOST],
+            count: 0,
+        }
+    }
+
+    pub fn as_slice(&self) -> &[u64] {
+        &self.cells[..self.count.min(MOST)]
+    }
+
+    // Where the list is full, the next number stands in the place of its last.
+    fn push(&mut self, number: u64) {
+        self.cells[self.count.min(MOST - 1)] = number;
+        self.count = self.count.saturating_add(1).min(MOST);
+    }
+}
 
 // How many cells are lent for each of the memo's columns, for the skip vectors and for each of the log's columns.
 #[derive(Clone, Copy, Default)]
@@ -20,18 +45,18 @@ pub struct Lent {
 }
 
 // The lists and numbers of an input, and what is lent to it.
-#[derive(Clone, Drop)]
+#[derive(Clone, Copy)]
 pub struct Input {
-    pub rows: Vec<u64>,
-    pub scans: Vec<u64>,
-    pub left: Vec<u64>,
-    pub right: Vec<u64>,
-    pub divisors: Vec<u64>,
-    pub fixed: Vec<u64>,
-    pub outer: Vec<u64>,
-    pub inner: Vec<u64>,
-    pub result: Vec<u64>,
-    pub turns: Vec<u64>,
+    pub rows: List,
+    pub scans: List,
+    pub left: List,
+    pub right: List,
+    pub divisors: List,
+    pub fixed: List,
+    pub outer: List,
+    pub inner: List,
+    pub result: List,
+    pub turns: List,
     pub workers: u64,
     pub scheme: u64,
     pub lent: Lent,
@@ -39,18 +64,18 @@ pub struct Input {
 
 impl Input {
     // Nothing in any list, and nothing lent.
-    pub fn new(alloc: Global) -> Input {
+    pub fn new() -> Input {
         Input {
-            rows: Vec::new(alloc),
-            scans: Vec::new(alloc),
-            left: Vec::new(alloc),
-            right: Vec::new(alloc),
-            divisors: Vec::new(alloc),
-            fixed: Vec::new(alloc),
-            outer: Vec::new(alloc),
-            inner: Vec::new(alloc),
-            result: Vec::new(alloc),
-            turns: Vec::new(alloc),
+            rows: List::new(),
+            scans: List::new(),
+            left: List::new(),
+            right: List::new(),
+            divisors: List::new(),
+            fixed: List::new(),
+            outer: List::new(),
+            inner: List::new(),
+            result: List::new(),
+            turns: List::new(),
             workers: 0,
             scheme: 0,
             lent: Lent::default(),
@@ -59,8 +84,8 @@ impl Input {
 
     // Puts the numbers of a line into the list of its letter, or each into its place, where those left out stay as they were; a line with
     // another letter is a remark.
-    pub fn set(&mut self, letter: u8, numbers: Vec<u64>) {
-        let named = |i: usize, before: u64| numbers.get(i).copied().unwrap_or(before);
+    pub fn set(&mut self, letter: u8, numbers: List) {
+        let named = |i: usize, before: u64| numbers.as_slice().get(i).copied().unwrap_or(before);
         match letter {
             b'w' => {
                 self.workers = named(0, self.workers);
@@ -128,14 +153,11 @@ fn with_digit(number: u64, byte: u8) -> u64 {
         .wrapping_add((byte as u64).wrapping_sub(b'0' as u64))
 }
 
-// The numbers of a line, a blank before each. Where a list is full, the next number stands in the place of its last.
-pub fn numbers(alloc: Global, text: &[u8]) -> Result<Vec<u64>, AllocError> {
-    let mut numbers = Vec::new(alloc);
+// The numbers of a line, a blank before each.
+pub fn numbers(text: &[u8]) -> List {
+    let mut numbers = List::new();
     for digits in text.split(|b| *b == b' ').skip(1) {
-        if numbers.len() == MOST {
-            numbers.pop();
-        }
-        numbers.push(digits.iter().fold(0, |n, b| with_digit(n, *b)))?;
+        numbers.push(digits.iter().fold(0, |n, b| with_digit(n, *b)));
     }
-    Ok(numbers)
+    numbers
 }

@@ -1,38 +1,38 @@
 // What is lent to planning, marked, and how it prints after.
-use crate::input::Lent;
 use crate::shown::Spaced;
 use sets::shown::Tables;
 use sets::size;
-use std::alloc::{AllocError, Global};
 use std::io;
 
 // What stands in lent memory before.
-const MARK: u64 = 77;
+pub const MARK: u64 = 77;
 
 // Room for the largest of these queries, a chain of sixteen tables, and some to spare; no more is lent.
-const MOST_ROWS: usize = 140;
+pub const MOST_ROWS: usize = 140;
 
-const MOST_CELLS: usize = 820;
+pub const MOST_CELLS: usize = 820;
 
-const MOST_ENTRIES: usize = 8;
+pub const MOST_ENTRIES: usize = 8;
 
-// The memo's columns, the skip cells, and the log's columns.
+// The memo's columns, the skip cells, and the log's columns, as they are lent.
 #[derive(Drop)]
-pub struct Memory {
-    pub sets: Vec<u64>,
-    pub estimates: Vec<u64>,
-    pub costs: Vec<u64>,
-    pub outers: Vec<u64>,
-    pub methods: Vec<u64>,
-    pub skips: Vec<u64>,
-    pub log_workers: Vec<u64>,
-    pub log_driving: Vec<u64>,
-    pub log_inner: Vec<u64>,
-    pub log_costs: Vec<u64>,
+pub struct Memory<'a> {
+    pub sets: &'a mut [u64],
+    pub estimates: &'a mut [u64],
+    pub costs: &'a mut [u64],
+    pub outers: &'a mut [u64],
+    pub methods: &'a mut [u64],
+    pub skips: &'a mut [u64],
+    pub log_workers: &'a mut [u64],
+    pub log_driving: &'a mut [u64],
+    pub log_inner: &'a mut [u64],
+    pub log_costs: &'a mut [u64],
 }
 
-fn marked(alloc: Global, length: u64, most: usize) -> Result<Vec<u64>, AllocError> {
-    vec![in alloc; MARK; most.min(length as usize)]
+// So many of the cells, or all where that is more.
+pub fn lent(cells: &mut [u64], length: u64) -> &mut [u64] {
+    let count = cells.len().min(length as usize);
+    &mut cells[..count]
 }
 
 // A cell of a column; behind what was lent of it, a mark.
@@ -59,38 +59,23 @@ struct Entry {
     cost: u64,
 }
 
-impl Memory {
-    pub fn lent(alloc: Global, lent: &Lent) -> Result<Memory, AllocError> {
-        Ok(Memory {
-            sets: marked(alloc, lent.sets, MOST_ROWS)?,
-            estimates: marked(alloc, lent.estimates, MOST_ROWS)?,
-            costs: marked(alloc, lent.costs, MOST_ROWS)?,
-            outers: marked(alloc, lent.outers, MOST_ROWS)?,
-            methods: marked(alloc, lent.methods, MOST_ROWS)?,
-            skips: marked(alloc, lent.skips, MOST_CELLS)?,
-            log_workers: marked(alloc, lent.log_workers, MOST_ENTRIES)?,
-            log_driving: marked(alloc, lent.log_driving, MOST_ENTRIES)?,
-            log_inner: marked(alloc, lent.log_inner, MOST_ENTRIES)?,
-            log_costs: marked(alloc, lent.log_costs, MOST_ENTRIES)?,
-        })
-    }
-
+impl Memory<'_> {
     fn row(&self, i: usize) -> Row {
         Row {
-            set: cell(&self.sets, i),
-            estimate: cell(&self.estimates, i),
-            cost: cell(&self.costs, i),
-            outer: cell(&self.outers, i),
-            method: cell(&self.methods, i),
+            set: cell(self.sets, i),
+            estimate: cell(self.estimates, i),
+            cost: cell(self.costs, i),
+            outer: cell(self.outers, i),
+            method: cell(self.methods, i),
         }
     }
 
     fn entry(&self, i: usize) -> Entry {
         Entry {
-            worker: cell(&self.log_workers, i),
-            driving: cell(&self.log_driving, i),
-            inner: cell(&self.log_inner, i),
-            cost: cell(&self.log_costs, i),
+            worker: cell(self.log_workers, i),
+            driving: cell(self.log_driving, i),
+            inner: cell(self.log_inner, i),
+            cost: cell(self.log_costs, i),
         }
     }
 
@@ -98,7 +83,7 @@ impl Memory {
     // spare rows, which planning leaves as they were, as plain numbers.
     pub fn print_rows(&self, rt: &impl Print, filled: usize) -> io::Result<()> {
         // By index: a column may be lent too short, and then has marks there.
-        let mut skips = self.skips.as_slice();
+        let mut skips: &[u64] = self.skips;
         for i in 0..self.sets.len() {
             let row = self.row(i);
             if i < filled {
