@@ -1,6 +1,6 @@
 -- Before the first turn: the rows of one table, the memo as laying out leaves it, and what a turn works on.
 use Rattle.std.specs.Prelude.{◌≡◌, refl, Option, List, [], ◌∷◌, ◌++◌, map, ℕ, zero, suc, ◌+◌, ◌-◌, ◌≤◌, ◌<◌, length, get_or, set, take, replicate}
-use Rattle.std.proofs.Common.{sym, ap, ◌∙◌, zero-add, arith, get_or-set_other}
+use Rattle.std.proofs.Common.{sym, ap, ◌∙◌, zero-add, add-one, arith, length-take, take-suc, get_or-set_other}
 use Rattle.std.proofs.Math.Decide.{dec_lt}
 use Rattle.std.proofs.lemmas.List.{length-replicate, get_or-replicate}
 use Rattle.rules.specs.Limits.{max_fixed, max_coefficient, cost_bound}
@@ -30,7 +30,7 @@ use Rattle.rows.specs.WalkLaws.{walk-hit, walk-few, walk_step, rows_start, up_to
 use Rattle.skips.specs.Vectors.{written}
 use Rattle.starts.specs.Starts.{counts_to, starts, cells_to, cell_starts}
 use Rattle.memo.specs.LayoutLaws.{written_over, front, still-long}
-use Rattle.starts.specs.CountLaws.{counts-at, length-starts}
+use Rattle.starts.specs.CountLaws.{counts-at, length-starts, written-push}
 use Rattle.pairs.specs.Places.{start_of, Fit, Ground}
 use Rattle.pairs.specs.PlaceLaws.{start-next, start-mono, start-memo, memo-inside, memo-row}
 use Rattle.results.specs.Prices.{Methods}
@@ -40,6 +40,14 @@ use Rattle.crew.specs.declared.Handed as code
 use Rattle.turns.specs.Index.{index_of, index_at}
 
 -- ---- lists
+-- a list copied to the front of another: one more of its values
+pub copied_more : (v d : List ℕ) (i : ℕ) {l : List ℕ} → i < length v → l ≡ written d 0 (take i v) → set l i (get_or v i 0) ≡ written d 0 (take (i + 1) v)
+copied_more v d i h e =
+    rw e (
+    written-push d 0 i (take i v) (get_or v i 0) (omega (arith, length-take i v))
+    ∙ ap (written d 0) (sym (ap (λ (k : ℕ). take k v) (add-one i) ∙ take-suc v i 0 h))
+    )
+
 -- what stands in the written part, and behind it
 written_at : (v d : List ℕ) (j : ℕ) → length v ≤ length d → j < length v → get_or (written d 0 v) j 0 ≡ get_or v j 0
 written_at v d j l h = ap (λ (x : List ℕ). get_or x j 0) (written_over v d l) ∙ over-at v d j h
