@@ -36,14 +36,14 @@ fn fill_from(
     near: &Neighbours,
     parts: &[u64; 256],
     t: u64,
-    chosen: Chosen,
+    chosen: &Chosen,
     e: u64,
     starts: &mut [usize],
     out: &mut [u64],
     estimates: &mut [u64],
 )
-    requires { (g : Graph) × Filling g near.now.of parts.now near.now.tables t chosen e starts.old out.old estimates.old }
-    ensures { (g : Graph) → Filling g near.now.of parts.now near.now.tables t chosen e starts.old out.old estimates.old → Filled g near.now.tables t chosen.set chosen.size starts.old starts.new out.old out.new estimates.old estimates.new }
+    requires { (g : Graph) × Filling g near.now.of parts.now near.now.tables t chosen.now e starts.old out.old estimates.old }
+    ensures { (g : Graph) → Filling g near.now.of parts.now near.now.tables t chosen.now e starts.old out.old estimates.old → Filled g near.now.tables t chosen.now.set chosen.now.size starts.old starts.new out.old out.new estimates.old estimates.new }
 {
     if t > near.tables {
         return;
@@ -63,7 +63,7 @@ fn fill_from(
     };
     let more = with_part(parts, t, chosen.set & beside, e);
     starts[with.size] = put(row, with.set, more, out, estimates, starts[with.size]);
-    fill_from(near, parts, t + 1, with, more, starts, out, estimates);
+    fill_from(near, parts, t + 1, &with, more, starts, out, estimates);
     fill_from(near, parts, t + 1, chosen, e, starts, out, estimates);
 }
 
@@ -82,5 +82,5 @@ pub fn lay_rows(tally: &Tally, out: &mut [u64], estimates: &mut [u64])
         starts[k + 1] = at;
         at += tally.counts[k + 1];
     }
-    fill_from(&near, &parts, 1, NONE, 1, &mut starts, out, estimates);
+    fill_from(&near, &parts, 1, &NONE, 1, &mut starts, out, estimates);
 }

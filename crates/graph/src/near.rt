@@ -82,9 +82,9 @@ impl Neighbours {
     }
 
     // Whether the chosen tables and `bit`, one more, are connected.
-    pub fn grows(&self, chosen: Chosen, bit: u64) -> bool
-        requires { chosen.set + bit < 65536 }
-        ensures { Grows self.now.of chosen bit result }
+    pub fn grows(&self, chosen: &Chosen, bit: u64) -> bool
+        requires { chosen.now.set + bit < 65536 }
+        ensures { Grows self.now.of chosen.now bit result }
     {
         if chosen.set == 0 {
             return true;
@@ -99,9 +99,9 @@ impl Neighbours {
     }
 
     // Whether the chosen tables can be joined no more by tables of `rest`: true only where no connected set adds some to them.
-    pub fn stuck(&self, chosen: Chosen, rest: u64) -> bool
-        requires { Disjoint chosen.set rest × (chosen.set + rest < 65536) }
-        ensures { Stuck self.now.of chosen rest result }
+    pub fn stuck(&self, chosen: &Chosen, rest: u64) -> bool
+        requires { Disjoint chosen.now.set rest × (chosen.now.set + rest < 65536) }
+        ensures { Stuck self.now.of chosen.now rest result }
     {
         if chosen.set == 0 {
             return false;

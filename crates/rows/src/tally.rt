@@ -52,14 +52,14 @@ pub fn count_rows(graph: &Graph) -> [usize; SIZES]
 {
     let near = Neighbours::new(graph);
     let mut counts = [0usize; SIZES];
-    tally_from(&near, 1, NONE, &mut counts);
+    tally_from(&near, 1, &NONE, &mut counts);
     counts
 }
 
 // Counts, by size, the connected sets that add some of the tables from `t` on to the chosen ones: table `t` is taken, then left.
-fn tally_from(near: &Neighbours, t: u64, chosen: Chosen, counts: &mut [usize])
-    requires { Counting near.now.of near.now.tables t chosen counts.old }
-    ensures { (g : Graph) → Node g near.now.of near.now.tables t chosen → Tallied g near.now.tables t chosen.set chosen.size counts.old counts.new }
+fn tally_from(near: &Neighbours, t: u64, chosen: &Chosen, counts: &mut [usize])
+    requires { Counting near.now.of near.now.tables t chosen.now counts.old }
+    ensures { (g : Graph) → Node g near.now.of near.now.tables t chosen.now → Tallied g near.now.tables t chosen.now.set chosen.now.size counts.old counts.new }
 {
     if t > near.tables {
         return;
@@ -77,6 +77,6 @@ fn tally_from(near: &Neighbours, t: u64, chosen: Chosen, counts: &mut [usize])
         joined: row,
     };
     counts[with.size] += usize::from(row);
-    tally_from(near, t + 1, with, counts);
+    tally_from(near, t + 1, &with, counts);
     tally_from(near, t + 1, chosen, counts);
 }

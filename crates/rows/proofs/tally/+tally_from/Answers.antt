@@ -7,20 +7,20 @@ use Rattle.rows.proofs.tally.+tally_from.Goals as goal
 
 pub returns-then-t-near : goal.returns-then-t-near
 returns-then-t-near t c =
-    λ g d. tallied-none _ (found-last g c.args.near.now.tables c.args.chosen.size c.args.t c.args.chosen.set c.if-t-near.true)
+    λ g d. tallied-none _ (found-last g c.args.near.now.tables c.args.chosen.now.size c.args.t c.args.chosen.now.set c.if-t-near.true)
 
 pub overflow_sub-rest : goal.overflow_sub-rest
 overflow_sub-rest t c =
-    rest_some c.requires.g c.args.near.now.tables c.args.t c.args.chosen.set c.requires.node.some c.requires.node.last c.requires.node.below c.single.result c.single-bit.result c.single.ensures c.single-bit.ensures
+    rest_some c.requires.g c.args.near.now.tables c.args.t c.args.chosen.now.set c.requires.node.some c.requires.node.last c.requires.node.below c.single.result c.single-bit.result c.single.ensures c.single-bit.ensures
 
 pub stuck-requires : goal.stuck-requires
 stuck-requires t c =
     let single' = c.single-bit in
-    (rest-apart c.requires.g c.args.near.now.tables c.args.t c.args.chosen.set c.requires.node.some c.requires.node.last c.requires.node.below c.single.result single'.result c.single.ensures single'.ensures, all-fits c.args.near.now.tables (c.args.chosen.set + (c.single.result - single'.result)) c.requires.node.few (rest-fits c.requires.g c.args.near.now.tables c.args.t c.args.chosen.set c.requires.node.some c.requires.node.last c.requires.node.below c.single.result single'.result c.single.ensures single'.ensures))
+    (rest-apart c.requires.g c.args.near.now.tables c.args.t c.args.chosen.now.set c.requires.node.some c.requires.node.last c.requires.node.below c.single.result single'.result c.single.ensures single'.ensures, all-fits c.args.near.now.tables (c.args.chosen.now.set + (c.single.result - single'.result)) c.requires.node.few (rest-fits c.requires.g c.args.near.now.tables c.args.t c.args.chosen.now.set c.requires.node.some c.requires.node.last c.requires.node.below c.single.result single'.result c.single.ensures single'.ensures))
 
 pub returns-then-stuck : goal.returns-then-stuck
 returns-then-stuck t c =
-    λ g d. tallied-none _ (found_none g c.args.chosen.size c.args.t (c.args.near.now.tables + 1 - c.args.t) c.args.chosen.set (c.stuck.ensures.none c.if-stuck.true g c.args.near.now.tables c.args.t d (rest-is c.requires.g c.args.near.now.tables c.args.t c.args.chosen.set c.requires.node.some c.requires.node.last c.requires.node.below c.single.result c.single-bit.result c.single.ensures c.single-bit.ensures)))
+    λ g d. tallied-none _ (found_none g c.args.chosen.now.size c.args.t (c.args.near.now.tables + 1 - c.args.t) c.args.chosen.now.set (c.stuck.ensures.none c.if-stuck.true g c.args.near.now.tables c.args.t d (rest-is c.requires.g c.args.near.now.tables c.args.t c.args.chosen.now.set c.requires.node.some c.requires.node.last c.requires.node.below c.single.result c.single-bit.result c.single.ensures c.single-bit.ensures)))
 
 pub tally_from-requires : goal.tally_from-requires
 tally_from-requires t c =
