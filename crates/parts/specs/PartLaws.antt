@@ -186,8 +186,12 @@ module _ (parts : List ℕ) (t : ℕ) where
 
   -- the product fits, and the cut: c is the cell of t
   module _ (S e c : ℕ) (ec : c ≡ cell_of t t) where
-    pub cut-is : {r v : ℕ} → r ≡ by_parts parts S t (t - 1) (e * get_or parts c 0) → v ≡ min r max_estimate → v ≡ min max_estimate (by_parts parts S t (t - 1) (e * get_or parts (cell_of t t) 0))
-    cut-is {r} h w = let i : r ≡ by_parts parts S t (t - 1) (e * get_or parts (cell_of t t) 0) = rw ec at h in omega arith
+    module _ {r : ℕ} (h : r ≡ by_parts parts S t (t - 1) (e * get_or parts c 0)) where
+      pub cut-is : max_estimate < r → max_estimate ≡ min max_estimate (by_parts parts S t (t - 1) (e * get_or parts (cell_of t t) 0))
+      cut-is l = let i : r ≡ by_parts parts S t (t - 1) (e * get_or parts (cell_of t t) 0) = rw ec at h in omega arith
+
+      pub uncut-is : r ≤ max_estimate → r ≡ min max_estimate (by_parts parts S t (t - 1) (e * get_or parts (cell_of t t) 0))
+      uncut-is l = let i : r ≡ by_parts parts S t (t - 1) (e * get_or parts (cell_of t t) 0) = rw ec at h in omega arith
 
 -- ---- one table more
 -- the tables up to k decide

@@ -73,5 +73,9 @@ pub fn with_part(parts: &[u64; 256], t: u64, linked: u64, e: u64) -> u64
 {
     let product = e * parts[cell(t, t)];
     let r = by_linked(parts, t, linked, product);
-    r.min(MAX_ESTIMATE)
+    // No `min`: the edit estimate_cut_early turns what this test looks at.
+    if r > MAX_ESTIMATE {
+        return MAX_ESTIMATE;
+    }
+    r
 }
