@@ -121,3 +121,14 @@ module _ {fixed outer inner result : List ℕ} (ms : Methods fixed outer inner r
         go : (sooner a b ≡ true) ⊎ (sooner a b ≡ false) → Best (Offered (sides true pair) (length fixed) cost) (cond (sooner a b) a b)
         go (inl e) = rw e (both-sides (best-keep (first-is d p) (second_is t q) (rw e at (better-first a b).1)))
         go (inr e) = rw e (both-sides (best-take (first-is d p) (second_is t q) (rw e at (better-first a b).0)))
+
+    module _ (d t : ℕ) (p : Cheapest fixed outer inner result ex ey er d) (q : Cheapest fixed outer inner result ey ex er t) {b : Bool} (e : b ≡ sooner (unpack x base d) (unpack y base t)) where
+      -- the first outer set's best stands no later than the second's: it is the best of both
+      pub first-best : {both : Bool} → both ≡ true → b ≡ true → Best (Offered (sides both pair) (length fixed) cost) (unpack x base d)
+      unfolding better
+      first-best o f = rw (sym e ∙ f) at (both-best d t p q o)
+
+      -- it stands later: the second's is
+      pub second-best : {both : Bool} → both ≡ true → b ≡ false → Best (Offered (sides both pair) (length fixed) cost) (unpack y base t)
+      unfolding better
+      second-best o f = rw (sym e ∙ f) at (both-best d t p q o)

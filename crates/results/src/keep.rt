@@ -4,7 +4,7 @@ ghost use Rattle.rules.specs.laws.Choice.{kept};
 ghost use Rattle.results.specs.Prices.{choice_of};
 ghost use Rattle.results.specs.Kept.{held_at, Holds, SameColumns};
 
-use super::price::Choice;
+use super::price::{Choice, sooner};
 
 // The three columns of the memo that turns write, a row's choice in each row.
 #[derive(Drop)]
@@ -27,7 +27,7 @@ impl<'a> Columns<'a> {
             outer: self.outers[row],
             method: self.methods[row],
         };
-        if held.outer != 0 && held <= choice {
+        if held.outer != 0 && sooner(held, choice) {
             return held.cost;
         }
         self.costs[row] = choice.cost;

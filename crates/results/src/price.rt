@@ -1,7 +1,7 @@
 // The price of a pair: "Both outer choices and all methods of a joinable pair are priced in one turn."
 ghost use Rattle.std.specs.Prelude.{◌≡◌, ◌+◌, ◌<◌, length};
 ghost use Rattle.rules.specs.Limits.{cost_bound};
-ghost use Rattle.rules.specs.laws.Choice.{Best};
+ghost use Rattle.rules.specs.laws.Choice.{Best, sooner};
 ghost use Rattle.results.specs.Prices.{Methods, Estimates, choice_of};
 
 // One way to join a pair: its cost, the outer set, the method. Choices are in order of these three.
@@ -10,6 +10,13 @@ pub struct Choice {
     pub cost: u64,
     pub outer: u64,
     pub method: u64,
+}
+
+// Whether `a` stands no later than `b`, in that order. A function, so that pricing and keeping settle equal costs in one place.
+pub fn sooner(a: Choice, b: Choice) -> bool
+    ensures { result ≡ sooner (choice_of a) (choice_of b) }
+{
+    a <= b
 }
 
 // One of the two sets that are joined, and its estimate.
@@ -108,6 +115,6 @@ impl<'a> Rates<'a> {
             outer: x.set,
             method: driving % SHIFT,
         };
-        first.min(second)
+        if sooner(first, second) { first } else { second }
     }
 }
