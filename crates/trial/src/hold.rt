@@ -40,14 +40,19 @@ struct Expected<'a> {
 fn planned<'a>(memo: &'a Memo, log: &'a [Entry]) -> Expected<'a> {
     let rows = memo.rows.as_slice();
     let skips = memo.skips.as_slice();
+    let counts = counts(log);
     Expected {
-        answer: Numbers::of_plan(
-            memo.best(),
-            rows.len() as u64,
-            skips.len() as u64,
-            log.len() as u64,
-            counts(log),
-        ),
+        answer: Numbers {
+            shared: [
+                0,
+                0,
+                memo.best(),
+                rows.len() as u64,
+                skips.len() as u64,
+                log.len() as u64,
+            ],
+            counts,
+        },
         rows,
         skips,
         log,
@@ -56,7 +61,10 @@ fn planned<'a>(memo: &'a Memo, log: &'a [Entry]) -> Expected<'a> {
 
 fn refused_plan<'a>(refusal: Refused) -> Expected<'a> {
     Expected {
-        answer: Numbers::of_refusal(refusal as u64, 0),
+        answer: Numbers {
+            shared: [refusal as u64, 0, 0, 0, 0, 0],
+            counts: [0; 8],
+        },
         rows: &[],
         skips: &[],
         log: &[],

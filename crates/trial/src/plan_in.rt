@@ -1,7 +1,7 @@
 // Plans a query under a crew in memory that holds marks, and keeps what planning answered and left.
 use super::input::{Crew, Query};
 use planner::{Answer, plan};
-use rules::refusal::Refusal;
+use rules::refusal::{Reason, Refusal};
 use std::alloc::{AllocError, Global};
 
 // What stands in lent memory before.
@@ -61,26 +61,32 @@ impl Memory {
     }
 }
 
-impl Numbers {
-    pub fn of_plan(best: u64, rows: u64, cells: u64, pairs: u64, counts: [u64; 8]) -> Numbers {
-        Numbers {
-            shared: [0, 0, best, rows, cells, pairs],
-            counts,
-        }
-    }
+// Stands for a refusal that none of these queries has.
+const OTHER: u64 = 99;
 
-    pub fn of_refusal(number: u64, place: u64) -> Numbers {
-        Numbers {
-            shared: [number, place, 0, 0, 0, 0],
-            counts: [0; 8],
-        }
+// The numbers of the two refusals of too little memory, told here and not by the planner's own table.
+fn number_of(reason: Reason) -> u64 {
+    match reason {
+        Reason::MemoRows => 13,
+        Reason::SkipCells => 14,
+        _ => OTHER,
     }
 }
 
+// What planning answered. What it must have answered is put together apart, in `hold`.
 fn numbers_of(answer: Result<Answer, Refusal>) -> Numbers {
     match answer {
-        Ok(a) => Numbers::of_plan(a.best, a.rows, a.cells, a.pairs, a.counts),
-        Err(r) => Numbers::of_refusal(r.reason.number(), r.place),
+        Ok(a) => {
+            let counts = a.counts;
+            Numbers {
+                shared: [0, 0, a.best, a.rows, a.cells, a.pairs],
+                counts,
+            }
+        }
+        Err(r) => Numbers {
+            shared: [number_of(r.reason), r.place, 0, 0, 0, 0],
+            counts: [0; 8],
+        },
     }
 }
 
