@@ -6,6 +6,7 @@ use Rattle.std.proofs.Math.Decide.{dec_lt}
 use Rattle.std.proofs.lemmas.Option.{same_Some}
 use Rattle.rules.specs.declared.Crew.{Crew}
 use Rattle.rules.specs.declared.Group.{Group}
+use Rattle.rules.specs.declared.Scheme.{Scheme}
 use Rattle.rules.specs.Kinds.{new_crew}
 use Rattle.rules.specs.Schedule.{Schedule, by_size}
 use Rattle.rules.proofs.laws.Schedule.{by-size}
@@ -31,6 +32,9 @@ use Rattle.pairs.specs.Places.{Fit, Ground}
 use Rattle.crew.specs.declared.Worker.{Worker}
 use Rattle.crew.specs.declared.Handed as code
 use Rattle.opening.specs.Opening.{Opened}
+use Rattle.results.specs.declared.keep.Columns as lent
+use Rattle.results.specs.Kept.{SameColumns}
+use Rattle.turns.specs.Taken.{columns_of}
 use Rattle.turns.specs.Standing.{Columns, columns, top_of, Reach, Open, Board, InPlace, TurnTaken, Work}
 use Rattle.crew.specs.Workers.{nobody, worker_at}
 use Rattle.turns.specs.StandingLaws.{open-first, open-places, top-is, fit_is, few-handed, standing-open, standing-turn, standing-closed}
@@ -38,7 +42,7 @@ use Rattle.turns.specs.QueueLaws.{still_met, turn-progress, turn-progress-none}
 use Rattle.turns.specs.StepLaws.{set_at, driving-inside, inner-inside, step-costs, step-outers, step-methods}
 use Rattle.turns.specs.StartLaws.{tables-fit, Starting, final-start, reach-start, ground-of, estimated-of, open-of}
 use Rattle.crew.specs.Whose.{LowestLeft, whose, entries_on}
-use Rattle.rounds.specs.Rounds.{Shown, Between, Within, Started}
+use Rattle.rounds.specs.Rounds.{Shown, Between, Within, SameRows, Started}
 
 -- whoever has the turn is one of the workers
 pub whose-known : {q : Query} {crew : Crew} {groups : Schedule} {turns : List ℕ} (used low : ℕ) {w : ℕ} → Work q crew groups turns → low < crew.workers → w ≡ whose turns used low → w < crew.workers
@@ -69,6 +73,16 @@ shown-taken workers {m} f w l =
 -- no column gets shorter
 turn-reach : {g : Graph} {fixed outer inner result : List ℕ} {group : Group} {w : ℕ} {workers workers' : List Worker} {c new : Columns} {pair : Option code.Handed} → TurnTaken g fixed outer inner result group w workers workers' c new pair → Reach g c → Reach g new
 turn-reach t r = record { costs = omega (arith, r.costs, step-costs t.step); outers = omega (arith, r.outers, step-outers t.step); methods = omega (arith, r.methods, step-methods t.step) }
+
+-- they are still the same
+pub rows-on : {g : Graph} {fixed outer inner result : List ℕ} {group : Group} {w : ℕ} {workers workers' : List Worker} {c c' c'' : lent.Columns} {pair : Option code.Handed} → SameRows c' c
+    → TurnTaken g fixed outer inner result group w workers workers' (columns_of c') (columns_of c'') pair → SameColumns c'' c' → SameRows c'' c
+rows-on s t a = record {
+  columns = record { costs = a.costs ∙ s.columns.costs; outers = a.outers ∙ s.columns.outers; methods = a.methods ∙ s.columns.methods };
+  costs = step-costs t.step ∙ s.costs;
+  outers = step-outers t.step ∙ s.outers;
+  methods = step-methods t.step ∙ s.methods;
+}
 
 module _ {q : Query} {crew : Crew} {turns : List ℕ} (work : Work q crew (by_size q.shape) turns) {k : ℕ} (one : 1 ≤ k) (known : k ≤ table_count q.graph - 1) {group : Group} (is : group ≡ by_size q.shape k) where
   -- it fits
@@ -177,9 +191,9 @@ module _ (q : Query) (workers scheme : ℕ) (turns log : List ℕ) (old : Lent)
     pub estimated : take (length (memo q.graph)) new.estimates ≡ map (estimate q.graph) (memo q.graph)
     estimated = estimated-of q.graph old.estimates (omega (arith, room.rows, one.estimates)) (ap (λ (x : Lent). x.estimates) is)
 
-    -- and the first group may be opened
-    pub started_of : (crew : Crew) {costs : List ℕ} → new_crew workers scheme ≡ Some crew → costs ≡ written new.costs 0 q.scans → Started q crew turns (columns costs new.outers new.methods)
-    started_of crew {costs} named h =
+    -- and the first group may be opened, under each scheme
+    pub started_as : (named : Scheme) {costs : List ℕ} → costs ≡ written new.costs 0 q.scans → Started q (record { workers = workers; scheme = named }) turns (columns costs new.outers new.methods)
+    started_as named {costs} h =
         let z : Starting q old.costs old.outers old.methods (columns costs new.outers new.methods) = record {
           costs-room = omega (arith, room.rows, one.costs);
           outers-room = omega (arith, room.rows, one.outers);
@@ -189,9 +203,15 @@ module _ (q : Query) (workers scheme : ℕ) (turns log : List ℕ) (old : Lent)
           methods-are = ap (λ (x : Lent). x.methods) is;
         } in
         let good = crew-of q workers scheme turns lengths log passed in
-        let e : crew.workers ≡ workers = ap (λ (c : Crew). c.workers) (same_Some _ _ (sym named ∙ crew-named good)) in
         record {
-          work = record { sound = sound; some-worker = rw e good.some-worker; few-workers = rw e good.few-workers; turns-known = λ j l. rw e (turns-of q workers scheme turns lengths log passed j l); serves = by-size q.shape (table_count q.graph) };
+          work = record { sound = sound; some-worker = good.some-worker; few-workers = good.few-workers; turns-known = turns-of q workers scheme turns lengths log passed; serves = by-size q.shape (table_count q.graph) };
           reach = reach-start q sound z;
-          final = final-start q sound z crew (by_size q.shape);
+          final = final-start q sound z (record { workers = workers; scheme = named }) (by_size q.shape);
         }
+
+    -- so under the one that the check names
+    pub started_of : (crew : Crew) {costs : List ℕ} → new_crew workers scheme ≡ Some crew → costs ≡ written new.costs 0 q.scans → Started q crew turns (columns costs new.outers new.methods)
+    started_of crew {costs} named h =
+        let good = crew-of q workers scheme turns lengths log passed in
+        let e : crew.workers ≡ workers = ap (λ (c : Crew). c.workers) (same_Some _ _ (sym named ∙ crew-named good)) in
+        rw e (started_as crew.scheme {costs = costs} h)

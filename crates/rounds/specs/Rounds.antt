@@ -4,6 +4,8 @@ use Rattle.rules.specs.declared.Crew.{Crew}
 use Rattle.rules.specs.Schedule.{by_size}
 use Rattle.rules.specs.Query.{Graph, Query}
 use Rattle.results.specs.declared.price.Rates.{Rates}
+use Rattle.results.specs.declared.keep.Columns as lent
+use Rattle.results.specs.Kept.{SameColumns}
 use Rattle.rules.specs.declared.Shape.TheVariants.{Bushy}
 use Rattle.shares.specs.declared.places.Spot.{Spot}
 use Rattle.shares.specs.Shares.{few}
@@ -36,6 +38,13 @@ pub record Between (q : Query) (crew : Crew) (k : ℕ) (workers : List Worker) (
 pub record Within (q : Query) (crew : Crew) (k : ℕ) (workers : List Worker) (c : Columns) : Type 0 where
   pub reach : Reach q.graph c
   pub standing : Standing q crew (by_size q.shape) k workers c
+
+-- the same lent columns, each as long as before
+pub record SameRows (c c' : lent.Columns) : Type 0 where
+  pub columns : SameColumns c c'
+  pub costs : length c.costs.now ≡ length c'.costs.now
+  pub outers : length c.outers.now ≡ length c'.outers.now
+  pub methods : length c.methods.now ≡ length c'.methods.now
 
 -- all is laid out and checked: the first group may be opened
 pub record Started (q : Query) (crew : Crew) (turns : List ℕ) (c : Columns) : Type 0 where

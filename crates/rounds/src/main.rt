@@ -8,6 +8,7 @@ ghost use Rattle.rules.specs.Schedule.{by_size};
 ghost use Rattle.rules.specs.Query.{table_count};
 ghost use Rattle.rules.specs.Rows.{memo};
 ghost use Rattle.rules.specs.Estimate.{estimate};
+ghost use Rattle.results.specs.Kept.{SameColumns};
 ghost use Rattle.turns.specs.Standing.{Work};
 ghost use Rattle.turns.specs.Taken.{columns_of};
 ghost use Rattle.crew.specs.Workers.{worker_at};
@@ -86,7 +87,8 @@ fn print_size(
 }
 
 // Turns of group `k` until no worker has a pair left: first the entries of the list, of which `used` are used up, then the lowest-numbered
-// worker. How many entries are used up then. The scan costs are named in the promise alone.
+// worker. How many entries are used up then. On a failed print too the columns are the same, of their lengths. The scan costs are named in
+// the promise alone.
 fn take_turns(
     rt: &impl Print,
     setting: &Setting,
@@ -100,7 +102,9 @@ fn take_turns(
 ) -> io::Result<usize>
     requires group { (1 ≤ k) × (k ≤ table_count setting.now.footing.graph.now - 1) × Work (query_by setting.now scans.now) crew (by_size Bushy) turns.now }
     requires within { Within (query_by setting.now scans.now) crew k workers.old (columns_of columns.old) }
-    ensures { IfOk result (λ _. Between (query_by setting.now scans.now) crew (k + 1) workers.new (columns_of columns.new)) }
+    ensures between { IfOk result (λ _. Between (query_by setting.now scans.now) crew (k + 1) workers.new (columns_of columns.new)) }
+    ensures lengths { (length columns.new.costs.now ≡ length columns.old.costs.now) × (length columns.new.outers.now ≡ length columns.old.outers.now) × (length columns.new.methods.now ≡ length columns.old.methods.now) }
+    ensures same_columns { SameColumns columns.new columns.old }
 {
     let group = Group::by_size(k);
     let mut used = used;
