@@ -1,2 +1,3 @@
 -- Laws that stand on this crate's definitions.
 pub mod Laws
+pub mod Unique

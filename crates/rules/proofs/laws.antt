@@ -17,3 +17,4 @@ pub mod Progress
 pub mod Answers
 pub mod Writing
 pub mod Text
+pub mod Told

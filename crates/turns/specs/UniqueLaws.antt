@@ -1,5 +1,5 @@
 -- Any two answers that the contracts of places, turns, opening, lowest workers and prices allow are equal.
-use Rattle.std.specs.Prelude.{◌≡◌, List, Option, Some, ℕ, ◌+◌, ◌≤◌, ◌<◌, set}
+use Rattle.std.specs.Prelude.{◌≡◌, refl, List, Option, Some, None, ℕ, ◌+◌, ◌≤◌, ◌<◌, set, unwrap_or, IfSome}
 use Rattle.std.proofs.Common.{sym, ap, ◌∙◌, ⊎_elim, le_antisymm, arith}
 use Rattle.std.proofs.lemmas.Option.{same_Some}
 use Rattle.rules.specs.declared.Group.{Group}
@@ -18,7 +18,7 @@ use Rattle.results.specs.Prices.{choice_of}
 use Rattle.turns.specs.Standing.{Columns, choice_in, stored, pair_at, handed_pair, Handing, StepTaken, TurnTaken}
 use Rattle.crew.specs.Workers.{worker_at}
 use Rattle.pairs.specs.UniqueLaws.{row_one, next-unique}
-use Rattle.crew.specs.Whose.{LowestLeft}
+use Rattle.crew.specs.Whose.{LowestLeft, Lowest}
 
 -- ---- turns
 module _ {g : Graph} {fixed outer inner result : List ℕ} {group : Group} {old new new' : Columns} {pair pair' : Option code.Handed} where
@@ -56,6 +56,16 @@ lowest-le {workers} {r = r} {r' = r'} z z' =
 -- one worker is the lowest with a pair left
 pub lowest-unique : {workers : List Worker} {m r r' : ℕ} → LowestLeft workers m r → LowestLeft workers m r' → r ≡ r'
 lowest-unique z z' = le_antisymm (lowest-le z z') (lowest-le z' z)
+
+-- so what `lowest` answers is one: that worker, or that there is none
+pub whose-unique : {workers : List Worker} {m : ℕ} {r r' : Option ℕ} → Lowest workers m r → Lowest workers m r' → r ≡ r'
+whose-unique {m = m} {r = r} {r' = r'} z z' = go r r' z.inside z'.inside (lowest-unique z.is z'.is)
+  where
+    go : (r r' : Option ℕ) → IfSome r (λ w. w < m) → IfSome r' (λ w. w < m) → unwrap_or r m ≡ unwrap_or r' m → r ≡ r'
+    go (Some w) (Some w') l l' e = ap Some e
+    go (Some w) None l l' e = absurd (omega arith)
+    go None (Some w') l l' e = absurd (omega arith)
+    go None None l l' e = refl
 
 -- ---- prices
 -- one choice is the best, whatever is offered
