@@ -19,7 +19,10 @@ use Rattle.fields.specs.Spans.{span}
 use Rattle.fields.specs.SpanLaws.{rest-is}
 use Rattle.fields.specs.CutLaws.{cut-next, cut-some}
 use Rattle.fields.specs.NumberLaws.{digits_from}
-use Rattle.fields.specs.Recorded.{number_as, JudgedAs, Judged}
+use Rattle.fields.specs.ValueLaws.{Taken}
+use Rattle.fields.specs.ValueLaws as read
+use Rattle.fields.specs.KindLaws as kinds
+use Rattle.fields.specs.Recorded.{number_as, Recorded, JudgedAs, Judged}
 
 -- ---- a scan for the first byte of a kind
 -- a scan stands at i, and has not met the byte
@@ -139,6 +142,9 @@ module _ (s : List ℕ) (v i : ℕ) (l : i < length s) where
   pub digits-high : zero_digit + 9 < b → digits_from v (drop i s) ≡ None
   digits-high h = opened-digit ∙ rw (le-leb zero_digit b (omega arith), lt-leb b (zero_digit + 9) h)
 
+  pub digits-next : zero_digit ≤ b → b ≤ zero_digit + 9 → digits_from v (drop i s) ≡ digits_from (v * 10 + (b - zero_digit)) (drop (i + 1) s)
+  digits-next h k = opened-digit ∙ rw (le-leb zero_digit b h, le-leb b (zero_digit + 9) k)
+
 -- a value of i digits is below 10 ^ i
 pub power-next : (v i b : ℕ) → v < 10 ^ i → b ≤ zero_digit + 9 → v * 10 + (b - zero_digit) < 10 ^ (i + 1)
 power-next v i b h k = rw (add-one, pow-suc) (omega arith)
@@ -155,7 +161,19 @@ pub led-short : (s : List ℕ) → length s ≤ 1 → false ≡ zero_led s
 led-short s l = rw (le-ltb 1 (length s) l)
 
 -- ---- a number
+pub number-empty : (s : List ℕ) → length s ≡ 0 → None ≡ number_of s
+unfolding is_number
+number-empty s h = rw (lt-leb 1 (length s) (omega arith))
+
+pub number-long : (s : List ℕ) → (length s ≡ 0 → ⊥) → max_digits < length s → None ≡ number_of s
+unfolding is_number
+number-long s some l = rw (le-leb 1 (length s) (omega arith), lt-leb (length s) max_digits l)
+
 module _ (s : List ℕ) (some : length s ≡ 0 → ⊥) (l : length s ≤ max_digits) where
+  pub number-led : zero_led s ≡ true → None ≡ number_of s
+  unfolding is_number
+  number-led z = rw (le-leb 1 (length s) (omega arith), le-leb (length s) max_digits l, z)
+
   -- what is left to ask is its digits
   plain : zero_led s ≡ false → number_of s ≡ cond (all_digits s && leb (value_of s) max_number) (Some (value_of s)) None
   unfolding is_number
@@ -345,3 +363,15 @@ module _ (p : Progress) (line first : List ℕ) (l : Option Form) (r : Result Re
 
   pub judged-known : (f : Form) → l ≡ Some f → JudgedAs (Some f) p line r → Judged p line r
   judged-known f k j = rw (letter ∙ k) j
+
+-- a good line is none too many
+pub good-fits : {line cells : List ℕ} {kind : Kind} (p : Progress) (number : ℕ) → number ≡ number_as (line_form line) p line → number ≡ 0 → Recorded (line_form line) line (record { kind = kind; cells = cells }) → excess kind p.tables p.methods p.edges ≡ false
+good-fits p number e z r = kinds.good-fits p (sym z ∙ e) r
+
+-- ---- numbers read into cells
+module _ {line cells : List ℕ} {k : ℕ} (t : Taken line k cells) (count : ℕ) (h : length (fields line) ≡ suc count) where
+  pub taken-bad : (r : Option ℕ) → k < count → r ≡ number_of (field line (k + 1)) → r ≡ None → false ≡ all_numbers (number_fields line)
+  taken-bad r l e b = sym (read.taken-bad t count h r l e b)
+
+  pub taken-all : count ≤ k → true ≡ all_numbers (number_fields line)
+  taken-all l = sym (read.taken-all t count h l)

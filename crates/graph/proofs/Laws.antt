@@ -6,6 +6,8 @@ use Rattle.std.proofs.Math.Decide.{ℕ_discrete}
 use Rattle.std.specs.Int.Bits.{bit_and}
 use Rattle.std.proofs.lemmas.Nat.{and_le_r}
 use Rattle.rules.specs.Limits.{max_tables}
+use Rattle.rules.specs.Lists.{is_yes}
+use Rattle.query.specs.ConnectedLaws as connected
 use Rattle.rules.specs.Sets.{holds, single}
 use Rattle.rules.specs.Query.{Graph, table_count, edge_count, at, IsTable, Linked, Joins}
 use Rattle.rules.specs.Checked.{GoodGraph, EdgeGood}
@@ -73,3 +75,7 @@ module _ {inside seen todo : ℕ} (t m : ℕ) (f : Flood inside seen todo) (h : 
 -- ---- where the walk may go on
 pub stuck-not : (near : List ℕ) (chosen : Chosen) (x : ℕ) → Stuck near chosen x false
 stuck-not near chosen x = record { none = λ e. absurd (not-both false e refl) }
+
+-- ---- a decision that says no
+pub no-yes : {A : Type 0} (d : Dec A) → (A → ⊥) → is_yes d ≡ false
+no-yes d n = connected.no-yes d n

@@ -1,16 +1,22 @@
 -- Laws that no proof cites any more, since the check finds their goals: they hold as before.
-use Rattle.std.specs.Prelude.{◌≡◌, refl, true, false, List, ℕ, zero, suc, ◌+◌, ◌-◌, ◌*◌, ◌/◌, ◌≤◌, ◌<◌, get_or}
+use Rattle.std.specs.Prelude.{◌≡◌, refl, true, false, List, ℕ, zero, suc, ◌+◌, ◌-◌, ◌*◌, ◌/◌, ◌≤◌, ◌<◌, Bool, length, get_or}
 use Rattle.std.proofs.Common.{sym, ◌∙◌, ap₂, add-one, mul-suc, arith, Fits}
 use Rattle.std.specs.Int.{w64}
 use Rattle.rules.specs.Query.{Graph, table_count}
 use Rattle.rules.specs.declared.Group.{Group}
 use Rattle.rules.specs.Schedule.{inner_at}
 use Rattle.rules.specs.Checked.{GoodGraph}
+use Rattle.rules.specs.Rows.{rows_of}
 use Rattle.shares.specs.declared.Share.{Share}
-use Rattle.shares.specs.Shares.{few}
-use Rattle.pairs.specs.Places.{Drives, Ground, start_of, RowFrom, Countable, rows_of_size, count_at, count_to}
-use Rattle.pairs.specs.PlaceLaws.{drives}
-use Rattle.pairs.specs.FindLaws.{Clear, Sized}
+use Rattle.shares.specs.declared.Span.{Span}
+use Rattle.shares.specs.Shares.{few, ShareOf}
+use Rattle.shares.specs.Nowhere.{placed}
+use Rattle.pairs.specs.Joinable.{is_joinable}
+use Rattle.pairs.specs.Places.{Drives, Ground, start_of, first_row, end_row, ahead_of, Along, RowFrom, NextFrom, Countable, rows_of_size, count_at, count_to}
+use Rattle.pairs.specs.PlaceLaws.{drives, start-memo, memo-few, first-le, ahead-met, met-few}
+use Rattle.pairs.specs.SpanLaws.{Lies, span-lies, share-fits}
+use Rattle.pairs.specs.LeafLaws.{Walked, walked-found, walked_all}
+use Rattle.pairs.specs.FindLaws.{Clear, Sized, Rowed, row_span}
 use Rattle.pairs.specs.FindLaws as find
 
 -- ---- the search's rows
@@ -161,3 +167,35 @@ module _ {g : Graph} {group : Group} {d wide base end from to cell : ℕ} (size 
 -- ---- the inner size of driving size k + 1, where candidates are counted
 pub wide-known : {starts : List ℕ} {group : Group} (c : Countable starts group) {k e wide : ℕ} → k < e → e ≡ group.last → wide ≡ inner_at group (k + 1) → (1 ≤ wide) × (wide < c.sizes)
 wide-known c {k} l e w = (omega (arith, c.rising (k + 1) (omega arith) (omega arith)), omega (arith, c.inside (k + 1) (omega arith) (omega arith)))
+
+-- ---- a driving row, of which the walk has reached row j, found or not
+module _ (g : Graph) (sets cells starts cell_starts : List ℕ) (z : Ground g sets cells starts cell_starts) (good : GoodGraph g) (group : Group) (h : Share) (sh : ShareOf g group h)
+    (d i x wide base end cell first : ℕ) (own : Span) (r : Rowed g sets cells group h d i x wide base end cell first own) (j : ℕ) (w : Walked g sets (get_or sets i 0) own j) where
+  -- the row is done
+  module _ (l : own.end ≤ j) where
+    along : Along g sets (get_or sets i 0) own j
+    along = walked_all g sets (get_or sets i 0) own w l
+
+    pub rowed-clear : Clear g group h x (x + (end - first))
+    rowed-clear = find.rowed-clear g sets cells starts cell_starts z good group h sh d i x wide base end cell first own r j along l
+
+    pub rowed-next : RowFrom g group d (i + 1) (x + (end - first))
+    rowed-next = find.rowed-next g sets cells starts cell_starts z good group h sh d i x wide base end cell first own r j along l
+
+    pub rowed-few : x + (end - first) ≤ few
+    rowed-few = find.rowed-few g sets cells starts cell_starts z good group h sh d i x wide base end cell first own r j along l
+
+  -- its row j has a number
+  pub rowed-place : j < own.end → (first ≤ j) × (x + (j - first) ≤ few + few)
+  rowed-place l =
+      let at = r.at in
+      let few-end : end_row g group d ≤ few = omega (arith, start-memo g (inner_at group d + 1) (omega (arith, r.driven, at.from_one)), memo-few g good) in
+      let lies : Lies (first_row g group d i) (end_row g group d) (row_span g group h d i) = span-lies h (share-fits g group h sh good at.fit) (ahead_of g group d i) (length (rows_of g d)) (i - start_of g d) (first_row g group d i) (end_row g group d) (first-le g group d at.from_one r.driven i at.row_from r.more) few-end in
+      let a : Lies (first_row g group d i) (end_row g group d) own = rw r.own_is lies in
+      let c = (r.span-cells.rows j w.from l).early in
+      (omega (arith, r.first-is, a.after, w.from), omega (arith, at.ahead, ahead-met g group d i at.from_one r.driven at.row_from at.row-to, met-few g good group at.fit))
+
+  -- its row j is found
+  pub rowed-found : (x₀ : ℕ) → x₀ ≤ x → Clear g group h x₀ x → j < own.end → {b : Bool} → b ≡ is_joinable g (get_or sets i 0) (get_or sets j 0) → b ≡ true
+      → NextFrom g group h x₀ (placed (x + (j - first)) (record { size = d; row = i; inner = j }))
+  rowed-found x₀ a c l e t = find.rowed-found g sets cells starts cell_starts z good group h sh d i x wide base end cell first own r j (walked-found g sets (get_or sets i 0) own w l e t) x₀ a c l

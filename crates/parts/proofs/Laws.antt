@@ -2,12 +2,13 @@
 use Rattle.std.specs.Prelude.{◌≡◌, List, length, get_or, set}
 use Rattle.std.proofs.Math.Path.{ap}
 use Rattle.std.proofs.Common.{◌∙◌, mul-le-mul, arith, pow_mono, get_or-set_same, get_or-set_other}
-use Prim.Native.Nat.{ℕ, ◌+◌, ◌-◌, ◌*◌, ◌≤◌, ◌<◌, min, max}
+use Prim.Native.Nat.{ℕ, ◌+◌, ◌-◌, ◌*◌, ◌/◌, ◌≤◌, ◌<◌, min, max}
 use Rattle.std.proofs.Math.Decide.{ℕ_discrete}
 use Rattle.rules.specs.Limits.{max_tables, max_rows, max_estimate}
-use Rattle.rules.specs.Sets.{Lowest}
+use Rattle.rules.specs.Sets.{Lowest, single}
 use Rattle.rules.specs.Query.{Graph, table_count, edge_count, at}
 use Rattle.parts.specs.Parts.{cell_of, Own, Parts, by_parts, Divides}
+use Rattle.parts.specs.PartLaws as part
 
 -- ---- cells
 pub cell-fits : (t u : ℕ) → 1 ≤ t → t ≤ max_tables → 1 ≤ u → u ≤ max_tables → cell_of t u < 256
@@ -52,5 +53,11 @@ module _ (parts : List ℕ) (t : ℕ) where
     pub product-fits : e ≤ max_estimate → get_or parts (cell_of t t) 0 ≤ max_rows → e * get_or parts c 0 ≤ max_estimate * max_rows
     product-fits h l = rw ec (mul-le-mul h l)
 
-    pub uncut-is : {r : ℕ} → r ≡ by_parts parts S t (t - 1) (e * get_or parts c 0) → r ≤ max_estimate → r ≡ min max_estimate (by_parts parts S t (t - 1) (e * get_or parts (cell_of t t) 0))
-    uncut-is {r} h l = let i : r ≡ by_parts parts S t (t - 1) (e * get_or parts (cell_of t t) 0) = rw ec at h in omega arith
+    -- the cut as the lesser of two
+    pub least-is : {r v : ℕ} → r ≡ by_parts parts S t (t - 1) (e * get_or parts c 0) → v ≡ min r max_estimate → v ≡ min max_estimate (by_parts parts S t (t - 1) (e * get_or parts (cell_of t t) 0))
+    least-is {r} h w = let i : r ≡ by_parts parts S t (t - 1) (e * get_or parts (cell_of t t) 0) = rw ec at h in omega arith
+
+-- ---- a turn of the loop over the parts: x is the lowest table as a set, v the value after it
+module _ (parts : List ℕ) (t S u r : ℕ) (w : Lowest S u) (x : ℕ) (ex : x ≡ single u) (d : Divides parts t S) where
+  pub linked-step : (L e c v : ℕ) → c ≡ cell_of t u → v ≡ max 1 (r / get_or parts c 0) → by_parts parts S t (t - 1) r ≡ by_parts parts L t (t - 1) e → by_parts parts (S - x) t (t - 1) v ≡ by_parts parts L t (t - 1) e
+  linked-step L e c v ec i h = part.linked-step parts t S u r w x ex d L e c v ec (omega arith) h

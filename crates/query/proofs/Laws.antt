@@ -34,3 +34,7 @@ module _ (g : Graph) (s : ℕ) where
   -- the part is all of s
   pub whole-yes : (f : ℕ) → Part g s f → f ≡ s → is_yes (connected? g s) ≡ true
   whole-yes f p e = true-yes (connected? g s) (rw e at p.connected)
+
+-- ---- an or whose left test says yes
+pub or_yes : (a b : Bool) {r : Bool} → r ≡ a → r ≡ true → true ≡ (a || b)
+or_yes a b e t = rw (sym e ∙ t)

@@ -151,6 +151,10 @@ module _ {text rest : List ℕ} {place : ℕ} {p : Progress} {a b : Lists} (r : 
       is : line_number (read_of p b) (take e rest) ≡ number
       is = number-here p b r.held (take e rest) ∙ sym n
 
+      -- where it refuses, the reading ends
+      pub read-stopped : (number ≡ 0 → ⊥) → stopped number place (read_of p b) ≡ reading text
+      read-stopped z = sym (step-stop place (read_of p b) (take e rest) (lines after) number is z) ∙ split
+
     -- what a refused line is made into
     abbrev pub Refuses : Result Record Reason → Result Record Stopped → Type 0
     Refuses judged out = MatchResult judged (λ k. out ≡ Ok k) (λ reason. IsErrAnd out (λ s. (s.refusal ≡ record { reason = reason; place = place }) × (s.progress ≡ p)))
@@ -159,7 +163,7 @@ module _ {text rest : List ℕ} {place : ℕ} {p : Progress} {a b : Lists} (r : 
     read-refused (Ok k) out s j m z = let w : Ok k ≡ Err s = sym m ∙ z in let w' : ◌≡◌ {A = ℕ} 0 1 = cc in absurd (omega arith)
     read-refused (Err reason) out s j m z =
         let d : (s.refusal ≡ record { reason = reason; place = place }) × (s.progress ≡ p) = rw z at m in
-        rw (d.0, d.1) (sym (step-stop place (read_of p b) (take e rest) (lines after) (number_of reason) (is (number_of reason) j.0) (λ z. omega (arith, z, number-within reason))) ∙ split)
+        rw (d.0, d.1) (read-stopped (number_of reason) j.0 (λ z. omega (arith, z, number-within reason)))
 
     pub reads-next : {k : Record} {m : Progress} {c : Lists} → Judged p (take e rest) (Ok k) → Stored k.kind k.cells p m b c → Reads text after (place + 1) m a c
     reads-next {k} {m} {c} j s =

@@ -1,15 +1,15 @@
 -- Laws that no proof cites any more, since the check finds their goals: they hold as before.
-use Rattle.std.specs.Prelude.{◌≡◌, refl, Bool, true, false, List, ℕ, ◌+◌, ◌/◌, ◌%◌, ◌≤◌, ◌<◌, cond, ltb, leb, length, get_or, set}
+use Rattle.std.specs.Prelude.{◌≡◌, refl, List, ℕ, min, ◌+◌, ◌≤◌, ◌<◌, cond, ltb, leb, length, get_or, set}
 use Rattle.std.proofs.Common.{sym, ◌∙◌, arith}
 use Rattle.std.proofs.Math.Bool.{or-false}
 use borrow.Author.Tests.{lt-ltb, le-ltb, eq-eqb, ne_eqb}
 use Rattle.std.proofs.lemmas.List.{set-get_or}
 use Rattle.rules.specs.Limits.{max_fixed, max_coefficient}
 use Rattle.rules.specs.Offers as rules
-use Rattle.rules.specs.Offers.{Pair, sides, Offered}
-use Rattle.rules.specs.laws.Choice.{Best, sooner, better, kept}
-use Rattle.results.specs.Prices.{choice_at, Methods, Estimates, Cheapest, join_by}
-use Rattle.results.specs.PriceLaws.{both-best}
+use Rattle.rules.specs.laws.Choice.{sooner, kept}
+use Rattle.results.specs.Prices.{choice_at, packed_at, Methods, Estimates, CheapestOf}
+use Rattle.results.specs.PriceLaws as prices
+use Rattle.std.proofs.Math.Decide.{dec_lt}
 
 -- ---- the lesser of two numbers
 abbrev pub lesser : ℕ → ℕ → ℕ
@@ -52,29 +52,6 @@ module _ (costs outers methods : List ℕ) (row : ℕ) (new : rules.Choice) wher
   pub row-taken : keeps ≡ new → (new.cost ≡ keeps.cost) × ((set costs row new.cost ≡ set costs row keeps.cost) × ((set outers row new.outer ≡ set outers row keeps.outer) × (set methods row new.method ≡ set methods row keeps.method)))
   row-taken e = rw e (refl, (refl, (refl, refl)))
 
--- ---- the best way to join two sets
--- a packed price and its method, as a choice
-abbrev unpack : ℕ → ℕ → ℕ → rules.Choice
-unpack x base r = record { cost = base + r / 8; outer = x; method = r % 8 }
-
-module _ {fixed outer inner result : List ℕ} (ms : Methods fixed outer inner result) (x y ex ey er base : ℕ) (differ : x ≡ y → ⊥) where
-  abbrev pair : Pair
-  pair = record { driving = x; inner = y }
-
-  abbrev cost : ℕ → ℕ → ℕ → ℕ
-  cost = join_by fixed outer inner result x ex ey er base
-
-  module _ (d t : ℕ) (p : Cheapest fixed outer inner result ex ey er d) (q : Cheapest fixed outer inner result ey ex er t) {b : Bool} (e : b ≡ sooner (unpack x base d) (unpack y base t)) where
-    -- the first outer set's best stands no later than the second's: it is the best of both
-    pub first-best : {both : Bool} → both ≡ true → b ≡ true → Best (Offered (sides both pair) (length fixed) cost) (unpack x base d)
-    unfolding better
-    first-best o f = rw (sym e ∙ f) at (both-best ms x y ex ey er base differ d t p q o)
-
-    -- it stands later: the second's is
-    pub second-best : {both : Bool} → both ≡ true → b ≡ false → Best (Offered (sides both pair) (length fixed) cost) (unpack y base t)
-    unfolding better
-    second-best o f = rw (sym e ∙ f) at (both-best ms x y ex ey er base differ d t p q o)
-
 -- ---- the arithmetic of the methods one by one
 -- not the last one yet: there is one more
 pub more : {k n : ℕ} → k ≤ n → (n ≡ k → ⊥) → k < n
@@ -97,3 +74,15 @@ module _ {fixed outer inner result : List ℕ} (z : Methods fixed outer inner re
   -- the fourth is the last
   pub last-of-four : k ≡ 3 → 4 ≡ length fixed
   last-of-four e = omega (arith, z.few)
+
+-- ---- the least of the packed prices, one method more: it is the lesser of what it was and that method's
+module _ {fixed outer inner result : List ℕ} {ex ey er k best next : ℕ} (c : CheapestOf fixed outer inner result ex ey er k best) (e : next ≡ packed_at fixed outer inner result ex ey er k) where
+  pub one_more : {r : ℕ} → r ≡ lesser best next → CheapestOf fixed outer inner result ex ey er (k + 1) r
+  one_more {r} f = prices.one_more c e (f ∙ go (dec_lt next best))
+    where
+      go : Dec (next < best) → lesser best next ≡ min best next
+      go (yes l) = let m : next ≡ min best next = omega arith in sym (lesser-new l) ∙ m
+      go (no g) =
+          let h : best ≤ next = omega arith in
+          let m : best ≡ min best next = omega arith in
+          sym (lesser-old h) ∙ m

@@ -9,6 +9,7 @@ use Rattle.rules.specs.declared.Crew.{Crew}
 use Rattle.rules.specs.declared.Group.{Group}
 use Rattle.rules.specs.Schedule.{Schedule}
 use Rattle.rules.specs.Query.{Graph, Query, table_count}
+use Rattle.rules.specs.Rows.{memo}
 use Rattle.rules.specs.Refusals.{Memory}
 use Rattle.rules.specs.Shares.{Numbered}
 use Rattle.rules.specs.Turns.{Hand}
@@ -23,15 +24,17 @@ use Rattle.shares.specs.Nowhere.{left}
 use Rattle.shares.specs.Shares.{few}
 use Rattle.crew.specs.declared.Worker.{Worker}
 use Rattle.crew.specs.declared.Handed as code
-use Rattle.crew.specs.Workers.{nobody, worker_at}
+use Rattle.crew.specs.Workers.{nobody, worker_at, counts_of}
 use Rattle.crew.specs.Whose.{LowestLeft, whose, entries_on}
 use Rattle.crew.specs.Logs.{noted_if, count_if, LogFits}
-use Rattle.turns.specs.Standing.{Columns, Ready, Board, StepTaken, TurnTaken, Work}
+use Rattle.turns.specs.Standing.{Columns, columns, Ready, Board, StepTaken, TurnTaken, Work}
 use Rattle.turns.specs.StandingLaws.{top-is, fit_is}
 use Rattle.turns.specs.QueueLaws.{still_met}
 use Rattle.turns.proofs.Laws.{Prepared, board-of, ready_read, turn-of}
-use Rattle.runs.specs.Runs.{SearchReady, Within}
-use Rattle.runs.specs.SearchLaws.{whose-known, within-less, within-turn, within-ready, grounded}
+use Rattle.turns.specs.StartLaws.{tables-fit}
+use Rattle.runs.specs.Runs.{SearchReady, SearchDone, Between, Within}
+use Rattle.runs.specs.SearchLaws.{whose-known, within-less, within-turn, within-ready, grounded, spared-on, spared-written}
+use Rattle.runs.specs.SearchLaws as search
 
 -- between two turns, whatever was kept and lent before
 pub record Underway (q : Query) (crew : Crew) (groups : Schedule) (turns : List ℕ) (k low : ℕ) (workers : List Worker) (at pairs : ℕ) (c : Columns) (log : Memory) : Type 0 where
@@ -225,3 +228,31 @@ pub hand-ready : {q : Query} {crew : Crew} {groups : Schedule} {k low at pairs :
     → {workers : List Worker} {held : ℕ} {v : Worker} → InHand table workers held w v
     → {group : Group} → group ≡ groups k → Board q.graph q.fixed q.per_outer q.per_inner q.per_result sets estimates cells starts cell_starts group c × Ready q.graph group v
 hand-ready {table = table} work one known u p more {w = w} e {v = v} h is = rw is (within-board work one known u.lent_fits u.within more p, ready_read table w v h.worker (within-ready work one known u.lent_fits u.within more e))
+
+-- ---- a search between its groups: kept as since the scan costs were laid
+module _ {q : Query} {crew : Crew} {turns sets estimates cells : List ℕ} {c : Columns} {log : Memory} (z : SearchReady q crew turns sets estimates cells c log) {costs : List ℕ} (e : costs ≡ written c.costs 0 q.scans) where
+  -- before the first group
+  pub between_start : (groups : Schedule) (workers : List Worker) → length workers ≡ max_workers → ((w : ℕ) → worker_at workers w ≡ nobody)
+      → Between q crew groups turns (columns costs c.outers c.methods) log 1 workers 0 0 (columns costs c.outers c.methods) log
+  between_start groups workers l n =
+      let b = search.between_start z e groups workers l n in
+      record {
+        ran = b.ran;
+        reach = b.reach;
+        kept = record { costs = record { length-kept = refl; kept = refl }; outers = record { length-kept = refl; kept = refl }; methods = record { length-kept = refl; kept = refl } };
+        log-fits = b.log-fits;
+      }
+
+  -- after the last
+  pub between-end : {groups : Schedule} {workers : List Worker} {at pairs : ℕ} {new : Columns} {log' : Memory} → Between q crew groups turns (columns costs c.outers c.methods) log (table_count q.graph) workers at pairs new log'
+      → SearchDone q crew groups turns c new log log' pairs (counts_of workers)
+  between-end b = search.between-end z (record {
+    ran = b.ran;
+    reach = b.reach;
+    kept = record {
+      costs = spared-on (length (memo q.graph)) c.costs costs _ (rw e (spared-written (length (memo q.graph)) 0 q.scans c.costs (omega (arith, z.sound.scan-list, tables-fit q.graph z.sound.graph)))) b.kept.costs;
+      outers = b.kept.outers;
+      methods = b.kept.methods;
+    };
+    log-fits = b.log-fits;
+  })

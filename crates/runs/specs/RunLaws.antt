@@ -1,5 +1,5 @@
 -- Opening a group, each of its turns and closing it: how the turns in a row go on.
-use Rattle.std.specs.Prelude.{◌≡◌, true, false, Option, ℕ, suc, ◌+◌, ◌-◌, ◌*◌, ◌≤◌, ◌<◌, length, get_or, drop}
+use Rattle.std.specs.Prelude.{◌≡◌, true, false, Option, Some, ℕ, suc, ◌+◌, ◌-◌, ◌*◌, ◌≤◌, ◌<◌, length, get_or, drop}
 use Rattle.std.proofs.Math.Path.{refl, fun_ext}
 use Rattle.std.proofs.Common.{sym, ap, ◌∙◌, subst, inl, inr, ⊎_elim, le_refl, add-one, length-append, length-set, drop_of_length-le, drop-cons}
 use mathlib.Core.List.Memᴰ
@@ -137,8 +137,8 @@ module _ {q : Query} {crew : Crew} {groups : Schedule} {k : ℕ} {turns : List �
         go (inr b) = handed-same q (best_at q) some-all some-sofar b
 
     -- the cost that the turn answers is the standing cost of its result
-    pub stands-turn : Stands q (map pair_of (r.handed ++ hand_at q.graph (groups k) workers w ∷ [])) (union (pair_of (hand_at q.graph (groups k) workers w))) got.cost
-    stands-turn = rw cost (row-stands q (best_at q) (map pair_of (r.handed ++ x ∷ [])) (λ p i. let j = some-joinable p i in (best-least q work.sound p.driving j.driving-conn, best-least q work.sound p.inner j.inner-conn)) some-best)
+    pub stands-turn : (pair ≡ Some got) × Stands q (map pair_of (r.handed ++ hand_at q.graph (groups k) workers w ∷ [])) (union (pair_of (hand_at q.graph (groups k) workers w))) got.cost
+    stands-turn = (given.answer, rw cost (row-stands q (best_at q) (map pair_of (r.handed ++ x ∷ [])) (λ p i. let j = some-joinable p i in (best-least q work.sound p.driving j.driving-conn, best-least q work.sound p.inner j.inner-conn)) some-best))
       where
         c : Choice
         c = kept (choice_in old given.row) given.offer
@@ -166,7 +166,7 @@ module _ {q : Query} {crew : Crew} {groups : Schedule} {k : ℕ} {turns : List �
       standing = stands_after;
       sofar = some-sofar;
       all = some-all;
-      logged = rw r.count (logged-more r.logged fits x got stands-turn (ap (λ (p : Pair). p.driving) is-pair) (ap (λ (p : Pair). p.inner) is-pair));
+      logged = rw r.count (logged-more r.logged fits x got stands-turn.1 (ap (λ (p : Pair). p.driving) is-pair) (ap (λ (p : Pair). p.inner) is-pair));
       count = omega (arith, r.count, length-append r.handed (x ∷ []));
       tally = some-tally;
     }
@@ -174,17 +174,22 @@ module _ {q : Query} {crew : Crew} {groups : Schedule} {k : ℕ} {turns : List �
         is-pair : pair_at q.graph given.spot ≡ pair_of (hand_at q.graph (groups k) workers w)
         is-pair = turn-pair r.standing.places known t has
 
-    -- the next entry's worker is handed a pair
-    pub running-listed-some : LogFits lent → at < length turns → w ≡ get_or turns at 0 → Running q crew groups turns lent k workers' (at + 1) (pairs + 1) new (noted log pairs w got)
-    running-listed-some fits l e = running-some fits (at + 1) (omega arith) (turning-listed crew.workers (queues_by q crew groups) n turns r.handed k (queues_at q.graph crew (groups k) workers) w (drop (at + 1) turns)
-        (some_left r.standing.places w known has) (rw (entry_next l e) at r.turning))
+    -- the next entry's worker is handed a pair, the one that the turn answers
+    pub running-listed-some : LogFits lent → at < length turns → w ≡ get_or turns at 0 → (pair ≡ Some got) × Running q crew groups turns lent k workers' (at + 1) (pairs + 1) new (noted log pairs w got)
+    running-listed-some fits l e = (
+      given.answer,
+      running-some fits (at + 1) (omega arith) (turning-listed crew.workers (queues_by q crew groups) n turns r.handed k (queues_at q.graph crew (groups k) workers) w (drop (at + 1) turns)
+          (some_left r.standing.places w known has) (rw (entry_next l e) at r.turning)),
+    )
 
     -- "the lowest-numbered worker with a pair left" is handed one
-    pub running-lowest : LogFits lent → length turns ≤ at → ((v : ℕ) → v < w → left (worker_at workers v).place ≡ false) → Running q crew groups turns lent k workers' at (pairs + 1) new (noted log pairs w got)
+    pub running-lowest : LogFits lent → length turns ≤ at → ((v : ℕ) → v < w → left (worker_at workers v).place ≡ false) → (pair ≡ Some got) × Running q crew groups turns lent k workers' at (pairs + 1) new (noted log pairs w got)
     running-lowest fits l lower =
-        let e : drop at turns ≡ [] = drop_of_length-le turns {i = at} l in
-        running-some fits at r.entries (rw e (turning-lowest crew.workers (queues_by q crew groups) n turns r.handed k (queues_at q.graph crew (groups k) workers) w
-        (lowest-left r.standing.places w known has lower) (rw e at r.turning)))
+        let e : drop at turns ≡ [] = drop_of_length-le turns {i = at} l in (
+          given.answer,
+          running-some fits at r.entries (rw e (turning-lowest crew.workers (queues_by q crew groups) n turns r.handed k (queues_at q.graph crew (groups k) workers) w
+              (lowest-left r.standing.places w known has lower) (rw e at r.turning))),
+        )
 
   -- the next entry's worker has no pair left, another has
   pub running-listed-none : left (worker_at workers w).place ≡ false → at < length turns → w ≡ get_or turns at 0 → (v : ℕ) → v < crew.workers → left (worker_at workers v).place ≡ true → Running q crew groups turns lent k workers' (at + 1) pairs new log

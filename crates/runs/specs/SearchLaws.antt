@@ -115,13 +115,15 @@ module _ {q : Query} {crew : Crew} {groups : Schedule} {k : ℕ} {turns : List �
             → Running q crew groups turns lent k workers' (entries_on (length turns) at) (count_if pairs pair) new (noted_if log pairs w pair)
         go (yes l) (inl h) =
             let n : w ≡ get_or turns at 0 = rw (lt-ltb at (length turns) l) at e in
-            rw (lt-ltb at (length turns) l, (t.step.some h).answer) (running-listed-some work one known own z.reach r t h fits l n)
+            let o = running-listed-some work one known own z.reach r t h fits l n in
+            rw (lt-ltb at (length turns) l, o.0) o.1
         go (yes l) (inr h) =
             let n : w ≡ get_or turns at 0 = rw (lt-ltb at (length turns) l) at e in
             rw (lt-ltb at (length turns) l, (t.step.none h).2) (running-listed-none work one known own z.reach r t h l n low more (z.lowest.left more))
         go (no l) (inl h) =
             let n : w ≡ low = rw (le-ltb at (length turns) (omega arith)) at e in
-            rw (le-ltb at (length turns) (omega arith), (t.step.some h).answer) (running-lowest work one known own z.reach r t h fits (omega arith) (λ v u. z.lowest.lower v (omega arith)))
+            let o = running-lowest work one known own z.reach r t h fits (omega arith) (λ v u. z.lowest.lower v (omega arith)) in
+            rw (le-ltb at (length turns) (omega arith), o.0) o.1
         go (no l) (inr h) =
             let n : w ≡ low = rw (le-ltb at (length turns) (omega arith)) at e in
             absurd (not-both (left (worker_at workers w).place) (rw n (z.lowest.left more)) h)

@@ -1,6 +1,6 @@
 -- Laws that no proof cites any more, since the check finds their goals: they hold as before.
-use Rattle.std.specs.Prelude.{◌≡◌, refl, Bool, ℕ, ◌+◌, ◌-◌, ◌*◌, ◌/◌, ◌%◌, ◌≤◌, ◌<◌, eqb}
-use borrow.Author.Tests.{lt-ltb, le-ltb}
+use Rattle.std.specs.Prelude.{◌≡◌, refl, Bool, false, ℕ, ◌+◌, ◌-◌, ◌*◌, ◌/◌, ◌%◌, ◌≤◌, ◌<◌, eqb}
+use borrow.Author.Tests.{lt-ltb, le-ltb, lt-leb}
 use Rattle.rules.specs.declared.Scheme.TheVariants.{CutCandidates, CutRows, DealRows, DealInner}
 use Rattle.rules.specs.Shares.{cut, in_cut}
 use Rattle.shares.specs.declared.Share.{Share}
@@ -52,3 +52,9 @@ module _ (h : Share) (x j end : ℕ) {r : Span} where
   pub on-dealt-rows : h.scheme ≡ DealRows → r ≡ spans (j + 1) end 1 → r ≡ on_span h x j end
   unfolding on_by
   on-dealt-rows e f = rw e f
+
+-- before a cut's beginning, a row is not in it
+module _ (T m w i : ℕ) {a : ℕ} (e : a ≡ cut T m w) where
+  pub in-cut-no : i < a → false ≡ in_cut T m w i
+  unfolding in_cut
+  in-cut-no l = rw (← e, lt-leb a i l)

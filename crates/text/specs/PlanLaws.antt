@@ -115,7 +115,7 @@ module _ {i : Input} {o : Outcome} (blank : i.lent.sets ≡ blanks text_rows) (e
       }
 
 -- a plan's lines are short
-lines-short : {i : Input} {o : Outcome} (e : (verdict i).number ≡ 0) (g : Given i o) → length (join_lines i.query (given-tree e g).tree) + line_room ≤ answer_room
+pub lines-short : {i : Input} {o : Outcome} (e : (verdict i).number ≡ 0) (g : Given i o) → length (join_lines i.query (given-tree e g).tree) + line_room ≤ answer_room
 lines-short {i} e g =
     let t = given-tree e g in
     let s = (accepted i e).checked.sound in

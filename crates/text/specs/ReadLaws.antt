@@ -37,7 +37,7 @@ read-refused text r e l w =
     }
 
 -- ---- a good one: what the library answers is the answer
-good-lined : (text : List ℕ) {bytes : List ℕ} → (reading text).verdict.number ≡ 0 → Lined (verdict (input_of text)) (input_of text) bytes → Answers text bytes
+pub good-lined : (text : List ℕ) {bytes : List ℕ} → (reading text).verdict.number ≡ 0 → Lined (verdict (input_of text)) (input_of text) bytes → Answers text bytes
 good-lined text {bytes} good l = go (ℕ_discrete (verdict (input_of text)).number 0)
   where
     go : Dec ((verdict (input_of text)).number ≡ 0) → Answers text bytes

@@ -1,9 +1,12 @@
 -- Laws that no proof cites any more, since the check finds their goals: they hold as before.
-use Rattle.std.specs.Prelude.{◌≡◌, Option, Some, None, List, map, ℕ, ◌+◌, ◌-◌, ◌*◌, ◌^◌, ◌≤◌, ◌<◌, length, get_or, set, take}
-use Rattle.std.proofs.Common.{sym, ap, ◌∙◌, add-one, arith, length-take, take-suc, get_or-set_same, Fits}
+use Rattle.std.specs.Prelude.{◌≡◌, true, Option, Some, None, List, map, ℕ, ◌+◌, ◌-◌, ◌*◌, ◌^◌, ◌≤◌, ◌<◌, length, get_or, set, take}
+use Rattle.std.proofs.Common.{sym, ap, arith, get_or-set_same, Fits}
 use Rattle.std.specs.Int.{w64}
 use Rattle.rules.specs.Limits.{max_tables, cost_bound}
+use Rattle.rules.specs.declared.Crew.{Crew}
 use Rattle.rules.specs.declared.Group.{Group}
+use Rattle.rules.specs.Offers.{Pair}
+use Rattle.rules.specs.Log.{pair_of}
 use Rattle.rules.specs.Query.{Graph, Query, table_count}
 use Rattle.rules.specs.Sets.{size}
 use Rattle.rules.specs.Connected.{Connected}
@@ -11,25 +14,17 @@ use Rattle.rules.specs.Estimate.{estimate}
 use Rattle.rules.specs.Rows.{memo}
 use Rattle.rules.specs.Checked.{Sound}
 use Rattle.rules.specs.laws.Standing as standing
-use Rattle.skips.specs.Vectors.{written}
-use Rattle.starts.specs.CountLaws.{written-push}
 use Rattle.crew.specs.declared.Worker.{Worker}
 use Rattle.crew.specs.declared.Handed as code
 use Rattle.crew.specs.Workers.{nobody, worker_at}
 use Rattle.shares.specs.declared.places.Spot.{Spot}
+use Rattle.shares.specs.Nowhere.{left}
 use Rattle.shares.specs.Shares.{few}
 use Rattle.pairs.specs.Places.{Fit, Ground}
-use Rattle.turns.specs.Standing.{Columns, row_in, top_of, Reach, Board, Ready, StepTaken, TurnTaken}
+use Rattle.turns.specs.Standing.{Columns, row_in, top_of, Reach, Board, Ready, InPlace, StepTaken, TurnTaken, hand_at}
+use Rattle.turns.specs.QueueLaws as queue
 use Rattle.turns.specs.StepLaws.{cost-bounds}
 use Rattle.turns.specs.StartLaws.{methods-of, open-of}
-
--- a list copied to the front of another: one more of its values
-pub copied_more : (v d : List ℕ) (i : ℕ) {l : List ℕ} → i < length v → l ≡ written d 0 (take i v) → set l i (get_or v i 0) ≡ written d 0 (take (i + 1) v)
-copied_more v d i h e =
-    rw e (
-    written-push d 0 i (take i v) (get_or v i 0) (omega (arith, length-take i v))
-    ∙ ap (written d 0) (sym (ap (λ (k : ℕ). take k v) (add-one i) ∙ take-suc v i 0 h))
-    )
 
 -- a checked query whose memo is laid out: what no turn changes
 pub record Prepared (q : Query) (sets estimates cells starts cell_starts : List ℕ) : Type 0 where
@@ -107,3 +102,12 @@ sum-known d e l = omega arith
 
 pub result_fits : (d : ℕ) {w i n : ℕ} → w ≡ i → d + i ≤ n → n ≤ max_tables → Fits w64 (d + w)
 result_fits d e l u = omega arith
+
+-- ---- a turn of worker w that has a pair left
+module _ {g : Graph} {crew : Crew} {group : Group} {fixed outer inner result : List ℕ} {workers workers' : List Worker} {old new : Columns} {pair : Option code.Handed} {w : ℕ}
+    (z : InPlace g group crew workers) (known : w < crew.workers) (t : TurnTaken g fixed outer inner result group w workers workers' old new pair) (has : left (worker_at workers w).place ≡ true) where
+  -- the pair that it answers is the one handed
+  pub turn-pair : (p : code.Handed) × (pair ≡ Some p) × (p.driving ≡ (pair_of (hand_at g group workers w)).driving) × (p.inner ≡ (pair_of (hand_at g group workers w)).inner)
+  turn-pair =
+      let e = queue.turn-pair z known t has in
+      (_, (t.step.some has).answer, ap (λ (p : Pair). p.driving) e, ap (λ (p : Pair). p.inner) e)
